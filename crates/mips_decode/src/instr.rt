@@ -1,0 +1,87 @@
+//! The instructions of MIPS I and their registers.
+
+ghost use Rattle.std.specs.Prelude.{◌≡◌, ℕ, ◌<◌, ◌≤◌, IsSome, IfSome, ◌↔◌};
+
+use std::marker::Model;
+
+/// A register's number, 0 to 31.
+#[derive(Clone, Copy, Debug, PartialEq, Eq)]
+pub struct Reg {
+    number: u32,
+}
+
+impl Model for Reg {
+    ghost Value = { ℕ };
+
+    ghost view = { λ r. r.number };
+
+    ghost invariant = { λ r. r.number < 32 };
+
+    ghost inverse = { λ n. record { number = n } };
+}
+
+impl Reg {
+    /// The register of this number; none from 32 on.
+    pub fn new(n: u32) -> Option<Reg>
+        ensures found { IsSome result ↔ (n < 32) }
+        ensures value { IfSome result (λ r. r ≡ n) }
+    {
+        if n < 32 { Some(Reg { number: n }) } else { None }
+    }
+
+    /// The register's number.
+    pub fn number(&self) -> u32
+        ensures value { result ≡ self.now }
+        ensures small { result < 32 }
+    {
+        self.number
+    }
+}
+
+/// Operations on two registers.
+#[derive(Clone, Copy, Debug, PartialEq, Eq)]
+pub enum Op3 {
+    Sllv,
+    Srlv,
+    Srav,
+    Add,
+    Addu,
+    Sub,
+    Subu,
+    And,
+    Or,
+    Xor,
+    Nor,
+    Slt,
+    Sltu,
+}
+
+/// Shifts by a fixed number of bits.
+#[derive(Clone, Copy, Debug, PartialEq, Eq)]
+pub enum ShiftOp {
+    Sll,
+    Srl,
+    Sra,
+}
+
+/// Operations on a register and an immediate.
+#[derive(Clone, Copy, Debug, PartialEq, Eq)]
+pub enum ImmOp {
+    Addi,
+    Addiu,
+    Slti,
+    Sltiu,
+    Andi,
+    Ori,
+    Xori,
+}
+
+/// One instruction with its fields.
+#[derive(Clone, Copy, Debug, PartialEq, Eq)]
+pub enum Instr {
+    Three { op: Op3, rd: Reg, rs: Reg, rt: Reg },
+    Shift { op: ShiftOp, rd: Reg, rt: Reg, by: u8 },
+    Imm { op: ImmOp, rt: Reg, rs: Reg, imm: u16 },
+    Lui { rt: Reg, imm: u16 },
+    JumpReg { rs: Reg },
+}
