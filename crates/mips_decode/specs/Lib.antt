@@ -1,0 +1,10 @@
+pub mod State
+pub mod Table
+pub mod Decoded
+pub mod Effect
+pub mod Transfer
+pub mod Step
+pub mod Start
+pub mod Run
+pub mod Calls
+pub mod Records

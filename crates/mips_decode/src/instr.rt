@@ -26,7 +26,11 @@ impl Reg {
         ensures found { IsSome result ↔ (n < 32) }
         ensures value { IfSome result (λ r. r ≡ n) }
     {
-        if n < 32 { Some(Reg { number: n }) } else { None }
+        if n < 32 {
+            Some(Reg { number: n })
+        } else {
+            None
+        }
     }
 
     /// The register's number.
@@ -79,9 +83,29 @@ pub enum ImmOp {
 /// One instruction with its fields.
 #[derive(Clone, Copy, Debug, PartialEq, Eq)]
 pub enum Instr {
-    Three { op: Op3, rd: Reg, rs: Reg, rt: Reg },
-    Shift { op: ShiftOp, rd: Reg, rt: Reg, by: u8 },
-    Imm { op: ImmOp, rt: Reg, rs: Reg, imm: u16 },
-    Lui { rt: Reg, imm: u16 },
-    JumpReg { rs: Reg },
+    Three {
+        op: Op3,
+        rd: Reg,
+        rs: Reg,
+        rt: Reg,
+    },
+    Shift {
+        op: ShiftOp,
+        rd: Reg,
+        rt: Reg,
+        by: u8,
+    },
+    Imm {
+        op: ImmOp,
+        rt: Reg,
+        rs: Reg,
+        imm: u16,
+    },
+    Lui {
+        rt: Reg,
+        imm: u16,
+    },
+    JumpReg {
+        rs: Reg,
+    },
 }

@@ -4,10 +4,5 @@
 mod instr;
 mod step;
 
-pub use instr::ImmOp;
-pub use instr::Instr;
-pub use instr::Op3;
-pub use instr::Reg;
-pub use instr::ShiftOp;
-pub use step::Touched;
-pub use step::TrapKind;
+pub use instr::{ImmOp, Instr, Op3, Reg, ShiftOp};
+pub use step::{Regs, Touched, TrapKind};

@@ -21,3 +21,11 @@ pub struct Touched {
     pub size: u32,
     pub store: bool,
 }
+
+/// The registers: the 32 general ones, of which register 0 is always 0, and HI and LO.
+#[derive(Clone, Copy, Debug, PartialEq, Eq)]
+pub struct Regs {
+    pub general: [u32; 32],
+    pub hi: u32,
+    pub lo: u32,
+}

@@ -1,0 +1,1 @@
+-- The instruction table: each instruction's word.
