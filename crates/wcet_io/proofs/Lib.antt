@@ -1,0 +1,3 @@
+-- Lemmas on the two loops.
+pub mod Delivered
+pub mod Gathered
