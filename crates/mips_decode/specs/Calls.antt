@@ -2,7 +2,7 @@
 use Rattle.std.specs.Prelude.{◌≡◌, ℕ, ◌+◌, List, [], ◌∷◌, drop, Option}
 use Rattle.mips_decode.specs.State.{State, return_address}
 use Rattle.mips_decode.specs.Transfer.{Call, Linking, Straight, Calls, Returns}
-use Rattle.mips_decode.specs.Step.{Done, Stepped, Went, Returned, Trapped, value_step}
+use Rattle.mips_decode.specs.Step.{Stepped, Went, Returned, Trapped, value_step}
 
 -- The open calls after a unit, the innermost first: a call adds one, a return takes the innermost away.
 abbrev pub calls_after_link : List Call → Linking → List Call

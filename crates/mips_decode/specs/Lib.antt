@@ -1,6 +1,7 @@
 pub mod State
 pub mod Table
 pub mod Decoded
+pub mod Arithmetic
 pub mod Effect
 pub mod Transfer
 pub mod Step

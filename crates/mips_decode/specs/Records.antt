@@ -1,9 +1,9 @@
 -- The runs whose indirect transfers go to recorded targets.
-use Rattle.std.specs.Prelude.{◌≡◌, ℕ, ◌==◌, List, [], ◌∷◌, Contains, Option, if◌then◌else◌}
+use Rattle.std.specs.Prelude.{◌≡◌, ℕ, List, [], ◌∷◌, Contains, Option}
 use Rattle.mips_decode.specs.declared.instr.Instr.{Instr}
 use Rattle.mips_decode.specs.declared.instr.Instr.TheVariants.{Three, Shift, Imm, Lui, JumpReg}
 use Rattle.mips_decode.specs.State.{State}
-use Rattle.mips_decode.specs.Step.{Done, Stepped, Went, Returned, Trapped, value_step}
+use Rattle.mips_decode.specs.Step.{Stepped, Went, Returned, Trapped, value_step}
 
 -- An instruction goes to a recorded target: a JR of another register than 31 goes to one of the
 -- targets recorded for it. A record at `jr $31` names nothing.

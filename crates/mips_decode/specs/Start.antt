@@ -1,5 +1,5 @@
 -- The start states of a program over plain values.
-use Rattle.std.specs.Prelude.{◌≡◌, ℕ, ◌<◌, ◌^◌, List, [], ◌∷◌, length, All, Option, IfSome, IsTrue, slice_index, false}
+use Rattle.std.specs.Prelude.{◌≡◌, ℕ, ◌<◌, ◌^◌, List, [], ◌∷◌, length, All, Option, IfSome, slice_index, false}
 use Rattle.mips_decode.specs.declared.step.Regs.{Regs}
 use Rattle.mips_decode.specs.State.{Region, State, is_writable, return_address}
 

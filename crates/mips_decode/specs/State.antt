@@ -1,5 +1,5 @@
 -- The values that a program's units read and write: registers, program counter and memory.
-use Rattle.std.specs.Prelude.{ℕ, Bool, true, false, not, ◌&&◌, ◌==◌, ◌+◌, ◌*◌, ◌-◌, ◌/◌, ◌%◌, ◌^◌, nat_le, List, [], ◌∷◌, length, drop, find, slice_index, Option, Some, None, option_map, if◌then◌else◌}
+use Rattle.std.specs.Prelude.{ℕ, Bool, not, ◌&&◌, ◌==◌, ◌+◌, ◌*◌, ◌-◌, ◌/◌, ◌%◌, nat_le, List, length, find, slice_index, Option, None, option_map, if◌then◌else◌}
 use Rattle.mips_decode.specs.declared.step.Regs.{Regs}
 
 -- A stretch of memory: its first address, its flags (1 executable, 2 writable) and its bytes.

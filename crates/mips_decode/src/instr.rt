@@ -1,6 +1,6 @@
 //! The instructions of MIPS I and their registers.
 
-ghost use Rattle.std.specs.Prelude.{◌≡◌, ℕ, ◌<◌, ◌≤◌, IsSome, IfSome, ◌↔◌};
+ghost use Rattle.std.specs.Prelude.{◌≡◌, ℕ, ◌<◌, ◌≤◌, ◌%◌, ◌^◌, IsSome, IfSome, IsTrue, ◌↔◌};
 
 use std::marker::Model;
 
@@ -31,6 +31,22 @@ impl Reg {
         } else {
             None
         }
+    }
+
+    /// The register whose number is in the low five bits.
+    pub fn low(bits: u32) -> Reg
+        ensures { result ≡ bits % 2 ^ 5 }
+    {
+        Reg {
+            number: bits & 0x1f,
+        }
+    }
+
+    /// Whether the number is below 32, as the type keeps it.
+    pub fn in_range(&self) -> bool
+        ensures { IsTrue result ↔ (self.now < 32) }
+    {
+        self.number < 32
     }
 
     /// The register's number.

@@ -1,0 +1,54 @@
+-- Loaded segments: which addresses they cover, and what they hold there.
+use Rattle.std.specs.Prelude.{◌≡◌, ℕ, ◌+◌, ◌-◌, ◌/◌, ◌%◌, ◌<◌, ◌≤◌, ◌==◌, ◌&&◌, nat_le, Bool, List, length, Option, None, option_map, find, All, AllPairs, sum_by, slice_index, if◌then◌else◌}
+use Rattle.elf_mips.specs.Fields.{number_at}
+use Rattle.elf_mips.specs.declared.segment.Segment.{Segment}
+
+-- The n bytes from the address on lie in the segment.
+abbrev pub holds : ℕ → ℕ → Segment → Bool
+holds n address s = nat_le s.address address && nat_le (address + n) (s.address + s.size)
+
+-- The segment is executable (PF_X, bit 0) and not writable (PF_W, bit 1).
+abbrev pub is_code : Segment → Bool
+is_code s = s.flags % 2 == 1 && s.flags / 2 % 2 == 0
+
+-- The executable word at an address: the address is a multiple of 4, and the four bytes from it on
+-- lie in one segment of code. They are read with the highest byte first.
+abbrev pub code_at : List Segment → ℕ → Option ℕ
+code_at segments address =
+    if address % 4 == 0
+    then option_map (λ s. number_at 4 (address - s.address) s.bytes)
+    (find (λ s. holds 4 address s && is_code s) segments)
+    else None
+
+-- The byte that a segment holds at an address.
+abbrev pub byte_at : List Segment → ℕ → Option ℕ
+byte_at segments address =
+    option_map (λ s. slice_index s.bytes (address - s.address)) (find (holds 1 address) segments)
+
+-- The segment covers the address.
+abbrev pub Covers : Segment → ℕ → Type 0
+Covers s address = (s.address ≤ address) × (address < s.address + s.size)
+
+-- No address lies in both.
+abbrev pub AreApart : Segment → Segment → Type 0
+AreApart s t = (address : ℕ) → Covers s address → Covers t address → ⊥
+
+-- The bytes are as many as the size says, and there is one at least.
+pub record IsFilled (s : Segment) : Type 0 where
+  pub sized : length s.bytes ≡ s.size
+  pub some : 0 < s.size
+
+-- The segment ends at FFFFFFF0 or below, so that no sum of an address in it and of 16 wraps.
+abbrev pub EndsLow : Segment → Type 0
+EndsLow s = s.address + s.size ≤ 0xFFFFFFF0
+
+-- The bytes of all segments together.
+abbrev pub total_size : List Segment → ℕ
+total_size segments = sum_by (λ s. s.size) segments
+
+-- What the segments of every image keep.
+pub record AreLawful (segments : List Segment) : Type 0 where
+  pub filled : All IsFilled segments
+  pub low : All EndsLow segments
+  pub apart : AllPairs AreApart segments
+  pub fits : total_size segments ≤ 67108864

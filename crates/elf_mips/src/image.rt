@@ -1,0 +1,116 @@
+//! Images: what a program finds in memory when it starts.
+
+ghost use Rattle.std.specs.Prelude.{◌≡◌, ℕ, ◌+◌, ◌^◌, ◌<◌, ◌≤◌, ◌&&◌, true, [], All, AllPairs, length, find, option_map, IsTrue, IfOk, IfSome, OnSome};
+ghost use Rattle.elf_mips.specs.Segments.{IsFilled, EndsLow, AreApart, AreLawful, total_size, holds, is_code};
+ghost use Rattle.elf_mips.specs.Marks.{is_lawful};
+
+use crate::mark::Mark;
+use crate::segment::Segment;
+use crate::symbol::Symbol;
+use std::alloc::{AllocError, Global};
+use wcet_io::List;
+
+/// What a file loads, and what it says of its program.
+#[derive(Debug, Drop)]
+pub struct Image {
+    /// The address of the first instruction.
+    pub entry: u32,
+    /// The loaded segments, in the order of their program headers.
+    pub segments: List<Segment>,
+    /// The symbols, in their order.
+    pub symbols: List<Symbol>,
+    /// The records, in their order.
+    pub marks: List<Mark>,
+    pub ghost filled: { All IsFilled segments },
+    pub ghost low: { All EndsLow segments },
+    pub ghost apart: { AllPairs AreApart segments },
+    pub ghost fits: { total_size segments ≤ 67108864 },
+    pub ghost lawful: { All (λ m. is_lawful m ≡ true) marks },
+    pub ghost counted: { length marks ≤ 65536 },
+}
+
+impl Image {
+    ghost use Rattle.elf_mips.specs.Segments.{code_at, byte_at};
+    ghost use Rattle.elf_mips.specs.Symbols.{symbol_at};
+
+    /// The image of these segments, with no symbols and no records.
+    pub fn from_segments(
+        alloc: Global,
+        entry: u32,
+        segments: List<Segment>,
+    ) -> Result<Image, AllocError>
+        requires { AreLawful segments }
+        ensures entry { IfOk result (λ image. image.entry ≡ entry) }
+        ensures segments { IfOk result (λ image. image.segments ≡ segments) }
+        ensures symbols { IfOk result (λ image. image.symbols ≡ []) }
+        ensures marks { IfOk result (λ image. image.marks ≡ []) }
+    {
+        Ok(Image {
+            entry,
+            segments,
+            symbols: List::new(alloc),
+            marks: List::new(alloc),
+        })
+    }
+
+    /// The executable word at an address; `None` where there is none.
+    pub fn word_at(&self, address: u32) -> Option<u32>
+        ensures word { result ≡ code_at self.now.segments address }
+        ensures low { OnSome result (address + 4 < 2 ^ 32) }
+    {
+        if address % 4 != 0 {
+            return None;
+        }
+        let segment = self.code_segment(address)?;
+        Some(segment.word_from(address))
+    }
+
+    /// The byte at an address; `None` where no segment covers it.
+    pub fn byte_at(&self, address: u32) -> Option<u8>
+        ensures { result ≡ byte_at self.now.segments address }
+    {
+        let segment = self.segment_at(address)?;
+        Some(segment.byte_from(address))
+    }
+
+    /// The value of the first symbol of this name; `None` where there is none.
+    pub fn symbol(&self, name: &[u8]) -> Option<u32>
+        ensures { result ≡ symbol_at self.now.symbols name.now }
+    {
+        for symbol in self.symbols.as_slice() {
+            if symbol.name.as_slice() == name {
+                return Some(symbol.value);
+            }
+        }
+        None
+    }
+
+    /// The first segment of code that holds the word at an address.
+    fn code_segment(&self, address: u32) -> Option<&Segment>
+        ensures first { option_map (λ s. s.now) result ≡ find (λ s. holds 4 address s && is_code s) self.now.segments }
+        ensures held { IfSome result (λ s. IsTrue (holds 4 address s.now)) }
+        ensures filled { IfSome result (λ s. IsFilled s.now) }
+        ensures low { IfSome result (λ s. EndsLow s.now) }
+    {
+        for segment in self.segments.as_slice() {
+            if segment.holds(4, address) && segment.is_code() {
+                return Some(segment);
+            }
+        }
+        None
+    }
+
+    /// The first segment that covers an address.
+    fn segment_at(&self, address: u32) -> Option<&Segment>
+        ensures first { option_map (λ s. s.now) result ≡ find (holds 1 address) self.now.segments }
+        ensures held { IfSome result (λ s. IsTrue (holds 1 address s.now)) }
+        ensures filled { IfSome result (λ s. IsFilled s.now) }
+    {
+        for segment in self.segments.as_slice() {
+            if segment.holds(1, address) {
+                return Some(segment);
+            }
+        }
+        None
+    }
+}
