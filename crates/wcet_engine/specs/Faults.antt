@@ -8,7 +8,13 @@ use Rattle.elf_mips.specs.Segments.{code_at}
 use Rattle.wcet_engine.specs.declared.refusal.RefusalKind.{RefusalKind}
 use Rattle.wcet_engine.specs.declared.refusal.RefusalKind.TheVariants.{TooLong, Short, Unbuilt}
 use Rattle.wcet_engine.specs.declared.refusal.Refusal.{Refusal}
-use Rattle.wcet_engine.specs.Refusals.{rank}
+use Rattle.elf_mips.specs.declared.fault.ElfFault.{ElfFault}
+use Rattle.elf_mips.specs.declared.fault.ElfFault.TheVariants as elf_fault
+use Rattle.wcet_engine.specs.declared.analysis.Analysis.{Analysis}
+use Rattle.wcet_engine.specs.declared.analysis.Refused.{Refused}
+use Rattle.wcet_engine.specs.declared.analysis.Refused.TheVariants.{Fault, Memory}
+use Rattle.wcet_engine.specs.Refusals.{kind_of, rank}
+use Rattle.wcet_engine.specs.Sentence.{Bounds}
 use Rattle.wcet_engine.specs.Line.{IsLine, line_cost}
 
 -- The most bytes of a file.
@@ -41,3 +47,22 @@ pub record IsFirstFault (file : List ℕ) (refusal : Refusal) : Type 0 where
 -- No kind has an offender.
 abbrev pub HasNoFault : List ℕ → Type 0
 HasNoFault file = (kind : RefusalKind) (place : ℕ) → Offends file kind place → ⊥
+
+-- What an analysis says of a file without a fault: the file's image, and the bound of its line, which no
+-- run that the sentence speaks of exceeds.
+pub record IsAnalysis (file : List ℕ) (analysis : Analysis) : Type 0 where
+  pub faultless : HasNoFault file
+  pub image : Image
+  pub read : IsImage file image
+  pub line : IsLineBound image analysis.bound
+  pub bounds : Bounds image image.entry analysis.bound
+
+-- What an error says of a file; want of memory says nothing.
+abbrev pub TellsFault : List ℕ → Refused → Type 0
+TellsFault file (Fault refusal) = IsFirstFault file refusal
+TellsFault file Memory = Unit {0}
+
+-- The error for a fault of the reader.
+abbrev pub refused_of : ElfFault → Refused
+refused_of (elf_fault.Bad kind offset) = Fault (record { kind = kind_of kind; place = offset })
+refused_of elf_fault.Memory = Memory
