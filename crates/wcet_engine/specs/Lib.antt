@@ -1,6 +1,9 @@
-pub mod Line
-pub mod Records
-pub mod Sentence
-pub mod Words
-pub mod Refusals
+pub mod Answers
 pub mod Faults
+pub mod Line
+pub mod Outcomes
+pub mod Records
+pub mod Refusals
+pub mod Sentence
+pub mod Texts
+pub mod Words

@@ -2,13 +2,13 @@
 #![tactic(auto)]
 
 mod analysis;
-
+mod answer;
 mod line;
 mod refusal;
-
-
-
+mod text;
+mod top;
+mod words;
 
 pub use analysis::{Analysis, Refused, analyse_bytes};
 pub use refusal::{Refusal, RefusalKind};
-
+pub use top::{Status, wcet_main};
