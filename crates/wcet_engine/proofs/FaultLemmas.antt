@@ -71,7 +71,7 @@ length-long file long =
 by_length : (file : List ℕ) → IsByLength file
 by_length file = record {
   short = λ short. rw (length-short file short) refl;
-  long = λ long. earlier-unbuilt _ _ (length-long file long) (earlier-unbuilt _ _ (header-unbuilt file) (segment-unbuilt file))
+  long = λ long. earlier-unbuilt _ _ (length-long file long) (earlier-unbuilt _ _ (header-unbuilt file) (segment-unbuilt file));
 }
 
 -- A file within its limit that the reader takes is no offender of an earlier kind.
@@ -90,8 +90,10 @@ no_fault-by_kind : (file : List ℕ) (image : Image) (count : ℕ) → length fi
 no_fault-by_kind file image count fits none read line TooLong place offends = absurd (omega (arith, offends.0))
 no_fault-by_kind file image count fits none read line Short place offends = none-short file none offends.0
 no_fault-by_kind file image count fits none read line Unbuilt place offends =
-    elim offends.1 [ inl some ↦ cc
-        | inr other ↦ other.2 count (line-of_image file image other.0 count read other.1 line) ]
+    elim offends.1 [
+      | inl some ↦ cc
+      | inr other ↦ other.2 count (line-of_image file image other.0 count read other.1 line)
+    ]
 
 -- A file that is read and begins a line has no fault.
 pub HasNoFault-line : (file : List ℕ) (image : Image) (count : ℕ) → length file ≤ file_limit → fault_of file ≡ None →
@@ -114,7 +116,7 @@ pub IsFirstFault-no_line : (file : List ℕ) (image : Image) → length file ≤
 IsFirstFault-no_line file image fits none read no_line = record {
   offends = (refl, inr (image, read, no_line));
   first = unbuilt-first file fits (none-short file none);
-  least = λ place less offends. absurd (omega arith)
+  least = λ place less offends. absurd (omega arith);
 }
 
 IsFirstFault-unbuilt : (file : List ℕ) → length file ≤ file_limit → 52 ≤ length file → fault_of file ≡ Some unbuilt →
@@ -122,7 +124,7 @@ IsFirstFault-unbuilt : (file : List ℕ) → length file ≤ file_limit → 52 �
 IsFirstFault-unbuilt file fits long some = record {
   offends = (refl, inl some);
   first = unbuilt-first file fits (λ short. absurd (omega arith));
-  least = λ place less offends. absurd (omega arith)
+  least = λ place less offends. absurd (omega arith);
 }
 
 short-first : (file : List ℕ) → length file ≤ file_limit →
@@ -136,7 +138,7 @@ IsFirstFault-short : (file : List ℕ) → length file ≤ file_limit → length
 IsFirstFault-short file fits short = record {
   offends = (short, refl);
   first = short-first file fits;
-  least = λ place less offends. absurd (omega (arith, offends.1))
+  least = λ place less offends. absurd (omega (arith, offends.1));
 }
 
 -- A file above its limit is too long, before all else.
@@ -145,7 +147,7 @@ pub IsFirstFault-long : (file : List ℕ) → file_limit < length file →
 IsFirstFault-long file long = record {
   offends = (long, refl);
   first = long-first file;
-  least = λ place less offends. absurd (omega (arith, offends.1))
+  least = λ place less offends. absurd (omega (arith, offends.1));
 } where
   long-first : (file : List ℕ) (kind : RefusalKind) (place : ℕ) → rank kind < 1 → Offends file kind place → ⊥
   long-first file TooLong place earlier offends = absurd (omega arith)
@@ -171,8 +173,9 @@ tells-short file fault fits short tells =
 
 tells-bad : (file : List ℕ) (fault : Fault) → length file ≤ file_limit → fault_of file ≡ Some fault → IsFirst file fault
 tells-bad file fault fits tells = elim (cases_lt (length file) 52) [
-    inl short ↦ tells-short file fault fits short tells
-  | inr long ↦ tells-long file fault fits long ((by_length file).long long) tells ]
+  | inl short ↦ tells-short file fault fits short tells
+  | inr long ↦ tells-long file fault fits long ((by_length file).long long) tells
+]
 
 pub TellsFault-tells : (file : List ℕ) (fault : ElfFault) → length file ≤ file_limit → Tells fault (fault_of file) →
     TellsFault file (refused_of fault)

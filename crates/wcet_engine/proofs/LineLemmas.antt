@@ -41,7 +41,7 @@ record MovesOn (s next : State) (step : Stepped) : Type 0 where
 
 ended-calls : (b : Bool) (instrs : List Instr) (access : _) (t : State) (calls : List Call) →
     calls_after calls (cond b (Returned (record { instructions = instrs; access = access; link = Straight }) t)
-        (Went (record { instructions = instrs; access = access; link = Straight }) t)) ≡ calls
+    (Went (record { instructions = instrs; access = access; link = Straight }) t)) ≡ calls
 ended-calls true instrs access t calls = refl
 ended-calls false instrs access t calls = refl
 
@@ -50,21 +50,21 @@ plain_done-joins : (s : State) (instr : Instr) (e : Effect) (next : State) (late
 plain_done-joins s instr (Traps kind) next later joins = absurd joins
 plain_done-joins s instr (Does access t) next later joins =
     let ends = ended-joins (s.pc + 4 == return_address) (record { instructions = instr ∷ []; access = access; link = Straight })
-        (record t { pc = s.pc + 4 }) next later joins in
+    (record t { pc = s.pc + 4 }) next later joins in
     record {
       place = ap (λ (u : State). u.pc) (sym ends.state);
       cycles = ends.cycles;
-      calls = λ calls. ended-calls (s.pc + 4 == return_address) (instr ∷ []) access (record t { pc = s.pc + 4 }) calls
+      calls = λ calls. ended-calls (s.pc + 4 == return_address) (instr ∷ []) access (record t { pc = s.pc + 4 }) calls;
     }
 
 straight-joins : (code : ℕ → Option ℕ) (s next : State) (later : List State) → IsStraightAt code s.pc →
     Joins (value_step code s) next later → MovesOn s next (value_step code s)
 straight-joins code s next later at joins =
     let e : value_step code s ≡ plain_done s at.instr (effect at.instr s) =
-        ap (unit_fetched code s) at.there ∙ ap (unit_of code s at.instr) (decided-straight at.instr s.pc s.regs at.straight) in
+    ap (unit_fetched code s) at.there ∙ ap (unit_of code s at.instr) (decided-straight at.instr s.pc s.regs at.straight) in
     subst (λ (step : Stepped). MovesOn s next step) (sym e)
-        (plain_done-joins s at.instr (effect at.instr s) next later
-            (subst (λ (step : Stepped). Joins step next later) e joins))
+    (plain_done-joins s at.instr (effect at.instr s) next later
+    (subst (λ (step : Stepped). Joins step next later) e joins))
 
 -- What the return does when it returns to its caller with no call open: nothing follows it.
 record ComesBack (later : List State) (step : Stepped) : Type 0 where
@@ -87,7 +87,7 @@ slot_done-back s instr way slot (Does access t) next later returns back joins =
     let done : Done = record { instructions = instr ∷ slot ∷ []; access = access; link = way.link } in
     record {
       last = ended-back (way.next == return_address) done (record t { pc = way.next }) next later refl returns back joins;
-      cycles = (ended-joins (way.next == return_address) done (record t { pc = way.next }) next later joins).cycles
+      cycles = (ended-joins (way.next == return_address) done (record t { pc = way.next }) next later joins).cycles;
     }
 
 -- The step at a return.
@@ -95,21 +95,25 @@ return-step : (code : ℕ → Option ℕ) (s : State) → IsReturnAt code s.pc �
     (way : Decided) × (slot : Instr) × (e : Effect) × (way.link ≡ Returns) × (value_step code s ≡ slot_done s (JumpReg 31) way slot e)
 return-step code s at =
     let way : Decided = record { next = reg s.regs 31; regs = s.regs; link = Returns } in
-    let slot = at.slot.instr in
-    (way, slot, effect slot (record s { regs = s.regs }), refl,
-     ap (unit_fetched code s) at.there
-     ∙ ap (slot_fetched s (JumpReg 31) way) at.slot.there
-     ∙ ap (λ (o : Option Decided). cond (is_some o) (Trapped Unknown (s.pc + 4)) (slot_done s (JumpReg 31) way slot (effect slot (record s { regs = s.regs }))))
-         (decided-straight slot (s.pc + 4) s.regs at.slot.straight))
+    let slot = at.slot.instr in (
+      way,
+      slot,
+      effect slot (record s { regs = s.regs }),
+      refl,
+      ap (unit_fetched code s) at.there
+          ∙ ap (slot_fetched s (JumpReg 31) way) at.slot.there
+          ∙ ap (λ (o : Option Decided). cond (is_some o) (Trapped Unknown (s.pc + 4)) (slot_done s (JumpReg 31) way slot (effect slot (record s { regs = s.regs }))))
+          (decided-straight slot (s.pc + 4) s.regs at.slot.straight),
+    )
 
 return-joins : (code : ℕ → Option ℕ) (s next : State) (later : List State) → IsReturnAt code s.pc →
     ReturnsToCaller [] (value_step code s) → Joins (value_step code s) next later → ComesBack later (value_step code s)
 return-joins code s next later at back joins =
     let r = return-step code s at in
     subst (λ (step : Stepped). ComesBack later step) (sym r.4)
-        (slot_done-back s (JumpReg 31) r.0 r.1 r.2 next later r.3
-            (subst (λ (step : Stepped). ReturnsToCaller [] step) r.4 back)
-            (subst (λ (step : Stepped). Joins step next later) r.4 joins))
+    (slot_done-back s (JumpReg 31) r.0 r.1 r.2 next later r.3
+    (subst (λ (step : Stepped). ReturnsToCaller [] step) r.4 back)
+    (subst (λ (step : Stepped). Joins step next later) r.4 joins))
 
 -- Every run along a line that returns to its caller costs at most the line.
 pub run_cost-line : (code : ℕ → Option ℕ) (count : ℕ) (s : State) (states : List State) → IsLine code s.pc count →
@@ -122,8 +126,8 @@ run_cost-line code (suc count) s [] line run back = omega arith
 run_cost-line code (suc count) s (t ∷ later) line run back =
     let moves = straight-joins code s t later line.0 run.0 in
     let rest : run_cost code t later ≤ line_cost count =
-        run_cost-line code count t later
-            (subst (λ (address : ℕ). IsLine code address count) (sym moves.place) line.1)
-            run.1
-            (subst (λ (calls : List Call). ReturnsToCallers code calls t later) (moves.calls []) back.1) in
+    run_cost-line code count t later
+    (subst (λ (address : ℕ). IsLine code address count) (sym moves.place) line.1)
+    run.1
+    (subst (λ (calls : List Call). ReturnsToCallers code calls t later) (moves.calls []) back.1) in
     omega (arith, rest, moves.cycles)

@@ -16,7 +16,7 @@ pub Begins-none : (code : ℕ → Option ℕ) (entry : ℕ) → Begins code entr
 Begins-none code entry = record {
   place = omega arith;
   onward = λ more line. subst (λ (n : ℕ). IsLine code entry n) (omega arith) line;
-  rest = λ whole line. (whole, omega arith, line)
+  rest = λ whole line. (whole, omega arith, line);
 }
 
 -- The return is no straight instruction.
@@ -38,8 +38,8 @@ Begins-more code entry address count begins straight = record {
   place = omega (arith, begins.place);
   onward = λ more line. subst (λ (n : ℕ). IsLine code entry n) (omega arith) (begins.onward (suc more) (straight, line));
   rest = λ whole line.
-    let r = begins.rest whole line in
-    rest-more code entry address count whole straight r.0 r.1 r.2
+      let r = begins.rest whole line in
+      rest-more code entry address count whole straight r.0 r.1 r.2;
 }
 
 -- Where neither a straight instruction nor the return stands, no line goes on.

@@ -36,7 +36,7 @@ Offends file TooLong place = (file_limit < length file) × (place ≡ file_limit
 Offends file Short place = (length file < 52) × (place ≡ length file)
 Offends file Unbuilt place =
     (place ≡ 0) × ((fault_of file ≡ Some (record { kind = elf.Unbuilt; offset = 0 }))
-        ⊎ ((image : Image) × IsImage file image × HasNoLine image))
+    ⊎ ((image : Image) × IsImage file image × HasNoLine image))
 
 -- The first fault: no earlier kind has an offender, and no lesser place has one of this kind.
 pub record IsFirstFault (file : List ℕ) (refusal : Refusal) : Type 0 where

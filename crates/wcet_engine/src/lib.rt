@@ -5,6 +5,8 @@ mod analysis;
 mod answer;
 mod line;
 mod refusal;
+#[cfg(test)]
+mod tests;
 mod text;
 mod top;
 mod words;

@@ -11,7 +11,7 @@ returns-in_err-image-clause-refused c =
 pub returns-in_default-clause-refused : goal.returns-in_default-clause-refused
 returns-in_default-clause-refused c =
     IsFirstFault-no_line c.args.elf.now c.in_ok-image.image c.requires
-        c.in_ok-image.ensures.sound c.in_ok-image.ensures.image c.in_default.ensures.none
+    c.in_ok-image.ensures.sound c.in_ok-image.ensures.image c.in_default.ensures.none
 
 pub returns-clause-analysed : goal.returns-clause-analysed
 returns-clause-analysed c =
@@ -23,5 +23,5 @@ returns-clause-analysed c =
       image = image;
       read = c.in_ok-image.ensures.image;
       line = line;
-      bounds = c.in-Some.ensures.bounds
+      bounds = c.in-Some.ensures.bounds;
     }

@@ -15,4 +15,4 @@ returns-then-is_return_at-clause-line c =
 pub returns-else-is_return_at-clause-none : goal.returns-else-is_return_at-clause-none
 returns-else-is_return_at-clause-none c =
     Begins-no_line _ _ _ _ c.loop-address.invariant
-        (c.loop-address-test.ensures.other (search rules)) (c.if-is_return_at.ensures.other (search rules))
+    (c.loop-address-test.ensures.other (search rules)) (c.if-is_return_at.ensures.other (search rules))
