@@ -1,0 +1,4 @@
+mod StartLemmas
+pub mod CodeLemmas
+pub mod KeptCode
+pub mod RunLemmas

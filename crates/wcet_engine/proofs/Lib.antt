@@ -1,0 +1,4 @@
+pub mod LineLemmas
+pub mod LineSteps
+pub mod LineBound
+pub mod FaultLemmas

@@ -1,0 +1,9 @@
+pub mod Answers
+pub mod Faults
+pub mod Line
+pub mod Outcomes
+pub mod Records
+pub mod Refusals
+pub mod Sentence
+pub mod Texts
+pub mod Words

@@ -1,0 +1,16 @@
+//! The analyser: from command words and the bytes of files to the printed bound.
+#![tactic(auto)]
+
+mod analysis;
+mod answer;
+mod line;
+mod refusal;
+#[cfg(test)]
+mod tests;
+mod text;
+mod top;
+mod words;
+
+pub use analysis::{Analysis, Refused, analyse_bytes};
+pub use refusal::{Refusal, RefusalKind};
+pub use top::{Status, wcet_main};

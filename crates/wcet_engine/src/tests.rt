@@ -1,0 +1,166 @@
+//! The top call on files in memory: printed lines, statuses, and what a failing shelf or sink leaves.
+
+ghost use Rattle.std.specs.Prelude.{◌≤◌, length};
+
+use crate::top::{Status, wcet_main};
+use elf_mips::read_image;
+use mips_decode::Reg;
+use mips_machine::{Machine, Outcome, Regs};
+use std::alloc::{AllocError, Global};
+use std::test::Fail;
+use wcet_io::{MemShelf, MemSink};
+
+/// Where the one segment begins, and its entry.
+const ENTRY: u32 = 0x0040_0000;
+
+/// An executable of one segment of flags 5 that holds these words, entered at its first one.
+fn file_of(alloc: Global, words: &[u32]) -> Result<Vec<u8>, AllocError>
+    requires { length words.now ≤ 64 }
+{
+    let size = (4 * words.len()) as u32;
+    let headers = [
+        // The ELF header: its magic number, type 2, machine 8, version 1, the entry, and one program
+        // header at offset 52.
+        0x7F45_4C46,
+        0x0102_0100,
+        0,
+        0,
+        0x0002_0008,
+        1,
+        ENTRY,
+        52,
+        0,
+        0,
+        0x0034_0020,
+        0x0001_0028,
+        0,
+        // The program header: type 1, the words at offset 84, both sizes, flags 5.
+        1,
+        84,
+        ENTRY,
+        ENTRY,
+        size,
+        size,
+        5,
+        4,
+    ];
+    let mut bytes = Vec::new(alloc);
+    for header in headers {
+        bytes.extend_from_slice(&u32::to_be_bytes(header))?;
+    }
+    for word in words {
+        bytes.extend_from_slice(&word.to_be_bytes())?;
+    }
+    Ok(bytes)
+}
+
+/// The words as texts.
+fn texts(alloc: Global, words: &[&str]) -> Result<Vec<String>, Fail> {
+    let mut owned = Vec::new(alloc);
+    for word in words {
+        owned.push(String::from_str(alloc, word)?)?;
+    }
+    Ok(owned)
+}
+
+/// The status of the words on the one file `f`, and the bytes that the sink took.
+fn answer(
+    alloc: Global,
+    words: &[&str],
+    bytes: &[u8],
+    shelf_fails: &[u64],
+    sink_step: usize,
+    sink_fails: &[u64],
+) -> Result<(Status, Vec<u8>), Fail>
+    requires { 1 ≤ sink_step }
+{
+    let words = texts(alloc, words)?;
+    let mut files = MemShelf::new(alloc, 64, shelf_fails.to_vec(alloc)?);
+    files.add("f", bytes)?;
+    let mut out = MemSink::new(alloc, sink_step, 100, sink_fails.to_vec(alloc)?)?;
+    let status = wcet_main(alloc, &words, &mut files, &mut out);
+    Ok((status, out.taken().to_vec(alloc)?))
+}
+
+#[test]
+fn prints_bounds_and_refusals(rt: HostRuntime) -> Result<(), Fail> {
+    let alloc = rt.alloc();
+    let rows: [(&[u32], Status, &str); 5] = [
+        (&[0x03E0_0008, 0], Status::Done, "bound 22\n"),
+        (
+            &[0x2408_0005, 0, 0x03E0_0008, 0x2508_0001],
+            Status::Done,
+            "bound 44\n",
+        ),
+        (
+            &[0x0000_000D],
+            Status::Refused,
+            "refused unbuilt 00000000\n",
+        ),
+        (
+            &[0x03E0_0008],
+            Status::Refused,
+            "refused unbuilt 00000000\n",
+        ),
+        (&[], Status::Refused, "refused unbuilt 00000000\n"),
+    ];
+    for (words, status, line) in rows {
+        if words.len() > 64 {
+            return Ok(());
+        }
+        let file = file_of(alloc, words)?;
+        let got = answer(alloc, &["analyse", "f"], &file, &[], 16, &[])?;
+        assert_eq!(rt; got.0, status);
+        assert_eq!(rt; got.1.as_slice(), line.as_bytes());
+    }
+    let empty = answer(alloc, &["analyse", "f"], &[], &[], 16, &[])?;
+    assert_eq!(rt; empty.0, Status::Refused);
+    assert_eq!(rt; empty.1.as_slice(), b"refused short 00000000\n".as_slice());
+    Ok(())
+}
+
+#[test]
+fn fails_only_with_the_outside(rt: HostRuntime) -> Result<(), Fail> {
+    let alloc = rt.alloc();
+    let file = file_of(alloc, &[0x03E0_0008, 0])?;
+    let no_words = answer(alloc, &[], &file, &[], 16, &[])?;
+    assert_eq!(rt; (no_words.0, no_words.1.len()), (Status::Usage, 0));
+    let no_file = answer(alloc, &["analyse"], &file, &[], 16, &[])?;
+    assert_eq!(rt; (no_file.0, no_file.1.len()), (Status::Usage, 0));
+    let missing = answer(alloc, &["analyse", "g"], &file, &[], 16, &[])?;
+    assert_eq!(rt; (missing.0, missing.1.len()), (Status::ReadFault, 0));
+    let torn = answer(alloc, &["analyse", "f"], &file, &[2], 16, &[])?;
+    assert_eq!(rt; (torn.0, torn.1.len()), (Status::ReadFault, 0));
+    let full = answer(alloc, &["analyse", "f"], &file, &[], 4, &[2])?;
+    assert_eq!(rt; full.0, Status::WriteFault);
+    assert_eq!(rt; full.1.as_slice(), b"boun".as_slice());
+    Ok(())
+}
+
+#[test]
+fn runs_a_line_to_its_return(rt: HostRuntime) -> Result<(), Fail> {
+    let alloc = rt.alloc();
+    let file = file_of(alloc, &[0x2408_0005, 0, 0x03E0_0008, 0x2508_0001])?;
+    if file.len() > 1000 {
+        return Ok(());
+    }
+    let image = read_image(alloc, &file)?;
+    let regs = Regs {
+        general: [7; 32],
+        hi: 1,
+        lo: 2,
+    };
+    let mut machine = Machine::start(alloc, &image, ENTRY, &regs)?;
+    let mut last = Outcome::Going;
+    for _ in 0..3 {
+        assert_eq!(rt; last, Outcome::Going);
+        assert!(rt; machine.cycles() < 100);
+        last = machine.step();
+    }
+    assert_eq!(rt; last, Outcome::Returned);
+    assert_eq!(rt; machine.cycles(), 44);
+    assert_eq!(rt; machine.pc(), 0xFFFF_FFF0);
+    let eight = Reg::new(8).ok_or("no register 8")?;
+    assert_eq!(rt; machine.reg(eight), 6);
+    Ok(())
+}

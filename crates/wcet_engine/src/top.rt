@@ -1,0 +1,90 @@
+//! The top call: from command words, files and a sink to a status.
+
+ghost use Rattle.std.specs.Prelude.{◌≡◌, ◌↔◌, ◌≤◌, ℕ, List, None, IfSome, IfOk, IfErr, OnOk, OnErr};
+ghost use Rattle.std.specs.Io.KnownBytes.{Appends};
+ghost use Rattle.wcet_io.specs.Causes.{HasCause, Rose};
+ghost use Rattle.wcet_io.specs.Fronts.{AppendsFront};
+ghost use Rattle.wcet_engine.specs.Texts.{text_of};
+ghost use Rattle.wcet_engine.specs.Words.{elf_of, form_of, words_of};
+
+use crate::answer::{Answer, Stopped, answer_for};
+use crate::text::print_answer;
+use crate::words::elf_name;
+use std::alloc::Global;
+use wcet_io::{Shelf, Sink, deliver};
+
+/// How a call ended. The program's exit statuses are 0 to 7 in this order.
+#[derive(Clone, Copy, Debug, PartialEq, Eq)]
+pub enum Status {
+    /// The output was taken whole.
+    Done,
+    /// The words have no form; nothing was read or written.
+    Usage,
+    /// The file has a fault; the refusal line was taken whole.
+    Refused,
+    /// The shelf failed; nothing was written.
+    ReadFault,
+    /// The sink failed; it took a front of the output.
+    WriteFault,
+    /// No memory was left; nothing was written.
+    Memory,
+    /// A bound that some counts may not reach. It doesn't come yet.
+    Open,
+    /// A report that doesn't hold. It doesn't come yet.
+    Rejected,
+}
+
+ghost use Rattle.wcet_engine.specs.Outcomes.{Wrote, status_of};
+
+/// Analyses the file that the words name, and writes the answer to the sink.
+///
+/// All output is made before the first byte is written.
+pub fn wcet_main<F: Shelf, O: Sink>(
+    alloc: Global,
+    words: &[String],
+    files: &mut F,
+    out: &mut O,
+) -> Status
+    // Usage comes exactly where the words have no form, and then nothing is read or written.
+    ensures usage { (result ≡ Status.Usage) ↔ (form_of (words_of words.now) ≡ None) }
+    ensures unread { result ≡ Status.Usage → files.new ≡ files.old }
+    ensures unwritten { result ≡ Status.Usage → out.new ≡ out.old }
+
+    // What is written, for the contents that the shelf tells: the sentence of the bound, or the
+    // first fault with its place.
+    ensures wrote { IfSome (form_of (words_of words.now)) (λ form.
+        Wrote (F.told files.old (elf_of form)) result (O.held out.old) (O.held out.new)) }
+
+    // The faults of the shelf and of the sink.
+    ensures read { result ≡ Status.ReadFault → Rose (F.faults files.old) (F.faults files.new) }
+    ensures write { result ≡ Status.WriteFault → Rose (O.faults out.old) (O.faults out.new) }
+    ensures files_later { F.faults files.old ≤ F.faults files.new }
+    ensures out_later { O.faults out.old ≤ O.faults out.new }
+    ensures kept { (name : List ℕ) → F.told files.new name ≡ F.told files.old name }
+{
+    let Some(name) = elf_name(words) else {
+        return Status::Usage;
+    };
+    let answer = match answer_for(alloc, files, name) {
+        Ok(answer) => answer,
+        Err(Stopped::Read) => return Status::ReadFault,
+        Err(Stopped::Memory) => return Status::Memory,
+    };
+    let Ok(text) = print_answer(alloc, &answer) else {
+        return Status::Memory;
+    };
+    match deliver(out, text.as_bytes()) {
+        Ok(()) => status_of(&answer),
+        Err(_) => Status::WriteFault,
+    }
+}
+
+/// The status of an answer that was taken whole.
+fn status_of(answer: &Answer) -> Status
+    ensures { result ≡ status_of answer.now }
+{
+    match answer {
+        Answer::Analysed(_) => Status::Done,
+        Answer::Refused(_) => Status::Refused,
+    }
+}
