@@ -1,0 +1,3 @@
+-- What the contracts on profiles say.
+pub mod Limits
+pub mod Costs
