@@ -1,3 +1,4 @@
 pub mod Chosen
 pub mod Rows
 pub mod Encoded
+pub mod Stores

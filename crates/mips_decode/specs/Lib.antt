@@ -2,6 +2,7 @@ pub mod State
 pub mod Table
 pub mod Decoded
 pub mod Arithmetic
+pub mod Memory
 pub mod Effect
 pub mod Transfer
 pub mod Step
@@ -9,3 +10,4 @@ pub mod Start
 pub mod Run
 pub mod Calls
 pub mod Records
+pub mod Columns

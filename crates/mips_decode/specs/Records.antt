@@ -1,18 +1,20 @@
 -- The runs whose indirect transfers go to recorded targets.
-use Rattle.std.specs.Prelude.{◌≡◌, ℕ, List, [], ◌∷◌, Contains, Option}
+use Rattle.std.specs.Prelude.{◌≡◌, ℕ, ◌==◌, Bool, true, false, not, List, [], ◌∷◌, Contains, Option}
 use Rattle.mips_decode.specs.declared.instr.Instr.{Instr}
-use Rattle.mips_decode.specs.declared.instr.Instr.TheVariants.{Three, Shift, Imm, Lui, JumpReg}
+use Rattle.mips_decode.specs.declared.instr.Instr.TheVariants.{JumpReg, JumpLink}
 use Rattle.mips_decode.specs.State.{State}
 use Rattle.mips_decode.specs.Step.{Stepped, Went, Returned, Trapped, value_step}
 
--- An instruction goes to a recorded target: a JR of another register than 31 goes to one of the
--- targets recorded for it. A record at `jr $31` names nothing.
+-- JALR, and JR of another register than 31, go to one of the targets recorded for them.
+-- A record at `jr $31` names nothing.
+abbrev pub needs_target : Instr → Bool
+needs_target (JumpReg rs) = not (rs == 31)
+needs_target (JumpLink rd rs) = true
+needs_target instr = false
+
+-- An instruction goes to a recorded target where it needs one.
 abbrev pub GoesToRecorded : List ℕ → Instr → ℕ → Type 0
-GoesToRecorded targets (Three op rd rs rt) next = Unit {0}
-GoesToRecorded targets (Shift op rd rt by) next = Unit {0}
-GoesToRecorded targets (Imm op rt rs imm) next = Unit {0}
-GoesToRecorded targets (Lui rt imm) next = Unit {0}
-GoesToRecorded targets (JumpReg rs) next = (rs ≡ 31 → ⊥) → Contains targets next
+GoesToRecorded targets instr next = needs_target instr ≡ true → Contains targets next
 
 abbrev pub GoToRecorded : List ℕ → List Instr → ℕ → Type 0
 GoToRecorded targets [] next = Unit {0}

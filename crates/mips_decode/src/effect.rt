@@ -1,12 +1,14 @@
-//! What the arithmetic instructions do to the registers.
+//! What the instructions but loads and stores do to the registers.
 
-ghost use Rattle.mips_decode.specs.Arithmetic.{imm_value, shift_value, sign_extended, signed, signed_result, three_value};
-ghost use Rattle.mips_decode.specs.Effect.{arithmetic, reg, with_reg};
+ghost use Rattle.mips_decode.specs.Effect.{arithmetic, multiplied, reg, with_hi_lo, with_product, with_reg};
 ghost use Rattle.mips_decode.specs.Table.{IsValid};
 ghost use Rattle.std.specs.Bool.{OnFalse, OnTrue};
-ghost use Rattle.std.specs.Prelude.{◌≡◌, ◌+ℤ◌, ◌-ℤ◌, ◌<◌, Option, option_map, ℕ};
+ghost use Rattle.std.specs.Prelude.{◌≡◌, ◌<◌, Option, option_map, ℕ};
 
-use crate::instr::{ImmOp, Instr, Op3, Reg, ShiftOp};
+use crate::arithmetic::{
+    imm_value, shift_value, signed_product, signed_quotient, signed_remainder, three_value,
+};
+use crate::instr::{HiLoOp, Instr, MulOp, Reg};
 use crate::step::Regs;
 
 impl Regs {
@@ -27,81 +29,61 @@ impl Regs {
     }
 }
 
-/// Sixteen bits with their highest one repeated above them.
-fn sign_extended(imm: u16) -> u32
-    ensures { result ≡ sign_extended imm }
+/// Leaves a product in HI and LO.
+fn put_product(regs: &mut Regs, product: u64)
+    ensures { regs.new ≡ with_product regs.old product }
 {
-    let number = u32::from(imm);
-    if imm < 0x8000 {
-        number
+    regs.hi = (product >> 32) as u32;
+    regs.lo = (product & 0xffff_ffff) as u32;
+}
+
+/// Multiplies or divides two numbers into HI and LO.
+fn multiply(op: MulOp, s: u32, t: u32, regs: &mut Regs)
+    ensures { regs.new ≡ multiplied op s t regs.old }
+{
+    match op {
+        MulOp::Mult => put_product(regs, signed_product(s, t)),
+        MulOp::Multu => put_product(regs, u64::from(s) * u64::from(t)),
+        MulOp::Div => put_quotient(regs, s, t),
+        MulOp::Divu => put_unsigned_quotient(regs, s, t),
+    }
+}
+
+/// Divides two signed numbers into HI and LO.
+fn put_quotient(regs: &mut Regs, s: u32, t: u32)
+    ensures { regs.new ≡ multiplied MulOp.Div s t regs.old }
+{
+    if t == 0 {
+        regs.hi = 0;
+        regs.lo = 0;
     } else {
-        number + 0xffff_0000
+        regs.hi = signed_remainder(s, t);
+        regs.lo = signed_quotient(s, t);
     }
 }
 
-/// The sum of two signed numbers; none where it overflows.
-fn signed_sum(s: u32, t: u32) -> Option<u32>
-    ensures { result ≡ signed_result (signed s +ℤ signed t) }
+/// Divides two unsigned numbers into HI and LO.
+fn put_unsigned_quotient(regs: &mut Regs, s: u32, t: u32)
+    ensures { regs.new ≡ multiplied MulOp.Divu s t regs.old }
 {
-    let sum = s.cast_signed().checked_add(t.cast_signed())?;
-    Some(sum.cast_unsigned())
-}
-
-/// The difference of two signed numbers; none where it overflows.
-fn signed_difference(s: u32, t: u32) -> Option<u32>
-    ensures { result ≡ signed_result (signed s -ℤ signed t) }
-{
-    let difference = s.cast_signed().checked_sub(t.cast_signed())?;
-    Some(difference.cast_unsigned())
-}
-
-/// A number shifted by fewer than 32 bits.
-fn shift_value(op: ShiftOp, number: u32, by: u32) -> u32
-    requires { by < 32 }
-    ensures { result ≡ shift_value op number by }
-{
-    match op {
-        ShiftOp::Sll => number << by,
-        ShiftOp::Srl => number >> by,
-        ShiftOp::Sra => (number.cast_signed() >> by).cast_unsigned(),
+    if t == 0 {
+        regs.hi = 0;
+        regs.lo = 0;
+    } else {
+        regs.hi = s % t;
+        regs.lo = s / t;
     }
 }
 
-/// What an operation on two registers computes; none where it overflows.
-fn three_value(op: Op3, s: u32, t: u32) -> Option<u32>
-    ensures { result ≡ three_value op s t }
+/// Moves a number from or to HI or LO.
+fn move_hi_lo(op: HiLoOp, register: Reg, regs: &mut Regs)
+    ensures { arithmetic (Instr.HiLo op register) regs.old ≡ Some regs.new }
 {
     match op {
-        Op3::Sllv => Some(shift_value(ShiftOp::Sll, t, s % 32)),
-        Op3::Srlv => Some(shift_value(ShiftOp::Srl, t, s % 32)),
-        Op3::Srav => Some(shift_value(ShiftOp::Sra, t, s % 32)),
-        Op3::Add => signed_sum(s, t),
-        Op3::Addu => Some(s.wrapping_add(t)),
-        Op3::Sub => signed_difference(s, t),
-        Op3::Subu => Some(s.wrapping_sub(t)),
-        Op3::And => Some(s & t),
-        Op3::Or => Some(s | t),
-        Op3::Xor => Some(s ^ t),
-        Op3::Nor => Some(!(s | t)),
-        Op3::Slt => Some(u32::from(s.cast_signed() < t.cast_signed())),
-        Op3::Sltu => Some(u32::from(s < t)),
-    }
-}
-
-/// What an operation on a register and an immediate computes; none where it overflows.
-fn imm_value(op: ImmOp, s: u32, imm: u16) -> Option<u32>
-    ensures { result ≡ imm_value op s imm }
-{
-    let signed = sign_extended(imm);
-    let number = u32::from(imm);
-    match op {
-        ImmOp::Addi => signed_sum(s, signed),
-        ImmOp::Addiu => Some(s.wrapping_add(signed)),
-        ImmOp::Slti => Some(u32::from(s.cast_signed() < signed.cast_signed())),
-        ImmOp::Sltiu => Some(u32::from(s < signed)),
-        ImmOp::Andi => Some(s & number),
-        ImmOp::Ori => Some(s | number),
-        ImmOp::Xori => Some(s ^ number),
+        HiLoOp::Mfhi => regs.set(register, regs.hi),
+        HiLoOp::Mthi => regs.hi = regs.get(register),
+        HiLoOp::Mflo => regs.set(register, regs.lo),
+        HiLoOp::Mtlo => regs.lo = regs.get(register),
     }
 }
 
@@ -121,7 +103,7 @@ fn put(regs: &mut Regs, reg: Reg, value: Option<u32>) -> bool
 }
 
 /// Does an arithmetic instruction; `false` where its signed result overflows, and then the
-/// registers stay. A jump changes nothing here.
+/// registers stay. Loads, stores, jumps, branches and stops change nothing here.
 pub fn apply(instr: &Instr, regs: &mut Regs) -> bool
     requires { IsValid instr.now }
     ensures done { OnTrue result (arithmetic instr.now regs.old ≡ Some regs.new) }
@@ -137,11 +119,25 @@ pub fn apply(instr: &Instr, regs: &mut Regs) -> bool
             let value = shift_value(op, regs.get(rt), u32::from(by));
             put(regs, rd, Some(value))
         }
+        Instr::HiLo { op, reg } => {
+            move_hi_lo(op, reg, regs);
+            true
+        }
+        Instr::MulDiv { op, rs, rt } => {
+            multiply(op, regs.get(rs), regs.get(rt), regs);
+            true
+        }
         Instr::Imm { op, rt, rs, imm } => {
             let value = imm_value(op, regs.get(rs), imm);
             put(regs, rt, value)
         }
         Instr::Lui { rt, imm } => put(regs, rt, Some(u32::from(imm) << 16)),
+        Instr::Load { .. } => true,
+        Instr::Store { .. } => true,
+        Instr::Branch { .. } => true,
+        Instr::Jump { .. } => true,
         Instr::JumpReg { .. } => true,
+        Instr::JumpLink { .. } => true,
+        Instr::Stop { .. } => true,
     }
 }

@@ -15,6 +15,8 @@ pub struct Fields {
     pub sa: u8,
     pub function: u32,
     pub imm: u16,
+    pub index: u32,
+    pub code: u32,
 }
 
 /// The fields of a word.
@@ -29,5 +31,7 @@ pub fn fields_of(word: u32) -> Fields
         sa: (word >> 6 & 0x1f) as u8,
         function: word & 0x3f,
         imm: (word & 0xffff) as u16,
+        index: word & 0x3ff_ffff,
+        code: word >> 6 & 0xf_ffff,
     }
 }

@@ -84,6 +84,24 @@ pub enum ShiftOp {
     Sra,
 }
 
+/// Moves from and to HI and LO.
+#[derive(Clone, Copy, Debug, PartialEq, Eq)]
+pub enum HiLoOp {
+    Mfhi,
+    Mthi,
+    Mflo,
+    Mtlo,
+}
+
+/// Multiplication and division into HI and LO.
+#[derive(Clone, Copy, Debug, PartialEq, Eq)]
+pub enum MulOp {
+    Mult,
+    Multu,
+    Div,
+    Divu,
+}
+
 /// Operations on a register and an immediate.
 #[derive(Clone, Copy, Debug, PartialEq, Eq)]
 pub enum ImmOp {
@@ -96,7 +114,50 @@ pub enum ImmOp {
     Xori,
 }
 
-/// One instruction with its fields.
+/// Loads. LWL and LWR load a part of the aligned word that holds their address.
+#[derive(Clone, Copy, Debug, PartialEq, Eq)]
+pub enum LoadOp {
+    Lb,
+    Lh,
+    Lwl,
+    Lw,
+    Lbu,
+    Lhu,
+    Lwr,
+}
+
+/// Stores. SWL and SWR store a part of a register into the aligned word that holds their
+/// address.
+#[derive(Clone, Copy, Debug, PartialEq, Eq)]
+pub enum StoreOp {
+    Sb,
+    Sh,
+    Swl,
+    Sw,
+    Swr,
+}
+
+/// Branches. BLTZAL and BGEZAL also link, whether they are taken or not.
+#[derive(Clone, Copy, Debug, PartialEq, Eq)]
+pub enum BranchOp {
+    Beq,
+    Bne,
+    Blez,
+    Bgtz,
+    Bltz,
+    Bgez,
+    Bltzal,
+    Bgezal,
+}
+
+/// System call and breakpoint.
+#[derive(Clone, Copy, Debug, PartialEq, Eq)]
+pub enum StopOp {
+    Syscall,
+    Break,
+}
+
+/// One instruction with its fields. In a branch that compares with zero, `rt` is register 0.
 #[derive(Clone, Copy, Debug, PartialEq, Eq)]
 pub enum Instr {
     Three {
@@ -111,6 +172,15 @@ pub enum Instr {
         rt: Reg,
         by: u8,
     },
+    HiLo {
+        op: HiLoOp,
+        reg: Reg,
+    },
+    MulDiv {
+        op: MulOp,
+        rs: Reg,
+        rt: Reg,
+    },
     Imm {
         op: ImmOp,
         rt: Reg,
@@ -121,7 +191,37 @@ pub enum Instr {
         rt: Reg,
         imm: u16,
     },
+    Load {
+        op: LoadOp,
+        rt: Reg,
+        base: Reg,
+        offset: u16,
+    },
+    Store {
+        op: StoreOp,
+        rt: Reg,
+        base: Reg,
+        offset: u16,
+    },
+    Branch {
+        op: BranchOp,
+        rs: Reg,
+        rt: Reg,
+        offset: u16,
+    },
+    Jump {
+        link: bool,
+        index: u32,
+    },
     JumpReg {
         rs: Reg,
+    },
+    JumpLink {
+        rd: Reg,
+        rs: Reg,
+    },
+    Stop {
+        op: StopOp,
+        code: u32,
     },
 }

@@ -1,17 +1,29 @@
 //! MIPS I integer instructions: their table, their effects and the step of one unit.
 #![tactic(auto)]
 
+mod arithmetic;
+mod columns;
 mod decoder;
 mod effect;
 mod encoder;
 mod fields;
 mod instr;
+mod memory;
+mod numbers;
 mod step;
 #[cfg(test)]
 mod tests;
+mod transfer;
 
+pub use columns::{CostClass, cost_class, reads, writes};
 pub use decoder::decode;
 pub use effect::apply;
 pub use encoder::encode;
-pub use instr::{ImmOp, Instr, Op3, Reg, ShiftOp};
+pub use instr::{
+    BranchOp, HiLoOp, ImmOp, Instr, LoadOp, MulOp, Op3, Reg, ShiftOp, StopOp, StoreOp,
+};
+pub use memory::{
+    address_of, load_touched, load_value, number_at, put_number, store_touched, store_value,
+};
 pub use step::{Regs, Touched, TrapKind};
+pub use transfer::{LinkKind, Way, decide, is_transfer};

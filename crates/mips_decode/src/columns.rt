@@ -1,0 +1,164 @@
+//! The places that an instruction reads and writes, and its cost class.
+
+ghost use Rattle.mips_decode.specs.Columns.{bits_of, class_of, places_read, places_written, register};
+ghost use Rattle.std.specs.Prelude.{◌≡◌, ◌<◌, ◌^◌, List, ℕ};
+
+use crate::instr::{BranchOp, HiLoOp, Instr, LoadOp, MulOp, Op3, Reg};
+
+/// What the cost of an instruction depends on.
+#[derive(Clone, Copy, Debug, PartialEq, Eq)]
+pub enum CostClass {
+    Alu,
+    Shift,
+    Mult,
+    Div,
+    Move,
+    Load,
+    Store,
+    Branch,
+    Jump,
+    Stop,
+}
+
+/// The bit of HI.
+const HI: u64 = 1 << 32;
+
+/// The bit of LO.
+const LO: u64 = 1 << 33;
+
+/// The bit of a register.
+fn bit(reg: Reg) -> u64
+    ensures { result ≡ 2 ^ reg }
+{
+    1 << reg.number()
+}
+
+/// The bit of a register that is written; register 0 never is.
+fn written(reg: Reg) -> u64
+    ensures { result ≡ bits_of (register reg) }
+{
+    if reg.number() == 0 { 0 } else { bit(reg) }
+}
+
+/// The places that an instruction reads: bit n for register n, bit 32 for HI, bit 33 for LO.
+pub fn reads(instr: &Instr) -> u64
+    ensures { result ≡ bits_of (places_read instr.now) }
+{
+    match *instr {
+        Instr::Three { rs, rt, .. } => bit(rs) | bit(rt),
+        Instr::Shift { rt, .. } => bit(rt),
+        Instr::HiLo {
+            op: HiLoOp::Mfhi,
+            ..
+        } => HI,
+        Instr::HiLo {
+            op: HiLoOp::Mflo,
+            ..
+        } => LO,
+        Instr::HiLo { reg, .. } => bit(reg),
+        Instr::MulDiv { rs, rt, .. } => bit(rs) | bit(rt),
+        Instr::Imm { rs, .. } => bit(rs),
+        Instr::Load {
+            op: LoadOp::Lwl,
+            rt,
+            base,
+            ..
+        } => bit(base) | bit(rt),
+        Instr::Load {
+            op: LoadOp::Lwr,
+            rt,
+            base,
+            ..
+        } => bit(base) | bit(rt),
+        Instr::Load { base, .. } => bit(base),
+        Instr::Store { rt, base, .. } => bit(base) | bit(rt),
+        Instr::Branch {
+            op: BranchOp::Beq,
+            rs,
+            rt,
+            ..
+        } => bit(rs) | bit(rt),
+        Instr::Branch {
+            op: BranchOp::Bne,
+            rs,
+            rt,
+            ..
+        } => bit(rs) | bit(rt),
+        Instr::Branch { rs, .. } => bit(rs),
+        Instr::JumpReg { rs } => bit(rs),
+        Instr::JumpLink { rs, .. } => bit(rs),
+        Instr::Lui { .. } => 0,
+        Instr::Jump { .. } => 0,
+        Instr::Stop { .. } => 0,
+    }
+}
+
+/// The places that an instruction writes, as in `reads`; bit 0 never is among them.
+pub fn writes(instr: &Instr) -> u64
+    ensures { result ≡ bits_of (places_written instr.now) }
+{
+    match *instr {
+        Instr::Three { rd, .. } => written(rd),
+        Instr::Shift { rd, .. } => written(rd),
+        Instr::HiLo {
+            op: HiLoOp::Mthi,
+            ..
+        } => HI,
+        Instr::HiLo {
+            op: HiLoOp::Mtlo,
+            ..
+        } => LO,
+        Instr::HiLo { reg, .. } => written(reg),
+        Instr::MulDiv { .. } => HI | LO,
+        Instr::Imm { rt, .. } => written(rt),
+        Instr::Lui { rt, .. } => written(rt),
+        Instr::Load { rt, .. } => written(rt),
+        Instr::Branch {
+            op: BranchOp::Bltzal,
+            ..
+        } => 1 << 31,
+        Instr::Branch {
+            op: BranchOp::Bgezal,
+            ..
+        } => 1 << 31,
+        Instr::Jump { link: true, .. } => 1 << 31,
+        Instr::JumpLink { rd, .. } => written(rd),
+        Instr::Store { .. } => 0,
+        Instr::Branch { .. } => 0,
+        Instr::Jump { .. } => 0,
+        Instr::JumpReg { .. } => 0,
+        Instr::Stop { .. } => 0,
+    }
+}
+
+/// The class that an instruction's cost is taken from.
+pub fn cost_class(instr: &Instr) -> CostClass
+    ensures { result ≡ class_of instr.now }
+{
+    match *instr {
+        Instr::Three { op: Op3::Sllv, .. } => CostClass::Shift,
+        Instr::Three { op: Op3::Srlv, .. } => CostClass::Shift,
+        Instr::Three { op: Op3::Srav, .. } => CostClass::Shift,
+        Instr::Three { .. } => CostClass::Alu,
+        Instr::Shift { .. } => CostClass::Shift,
+        Instr::HiLo { .. } => CostClass::Move,
+        Instr::MulDiv {
+            op: MulOp::Mult,
+            ..
+        } => CostClass::Mult,
+        Instr::MulDiv {
+            op: MulOp::Multu,
+            ..
+        } => CostClass::Mult,
+        Instr::MulDiv { .. } => CostClass::Div,
+        Instr::Imm { .. } => CostClass::Alu,
+        Instr::Lui { .. } => CostClass::Alu,
+        Instr::Load { .. } => CostClass::Load,
+        Instr::Store { .. } => CostClass::Store,
+        Instr::Branch { .. } => CostClass::Branch,
+        Instr::Jump { .. } => CostClass::Jump,
+        Instr::JumpReg { .. } => CostClass::Jump,
+        Instr::JumpLink { .. } => CostClass::Jump,
+        Instr::Stop { .. } => CostClass::Stop,
+    }
+}
