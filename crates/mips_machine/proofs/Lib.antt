@@ -1,4 +1,3 @@
-mod StartLemmas
-pub mod CodeLemmas
-pub mod KeptCode
-pub mod RunLemmas
+pub mod PlaceLemmas
+pub mod AccessLemmas
+pub mod EffectLemmas

@@ -1,5 +1,7 @@
+-- What the contracts of this crate cite.
 pub mod Region
 pub mod Image
+pub mod Places
 pub mod Machine
-pub mod Step
 pub mod Run
+pub mod Units

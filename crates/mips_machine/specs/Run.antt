@@ -4,7 +4,7 @@ use Rattle.mips_decode.specs.State.{State}
 use Rattle.mips_machine.specs.declared.outcome.Outcome.{Outcome}
 use Rattle.mips_machine.specs.declared.outcome.Outcome.TheVariants.{Going, Returned, Trap}
 use Rattle.mips_decode.specs.Step.{Done, Stepped, Went, Returned as Ended, Trapped, value_step}
-use Rattle.mips_machine.specs.Machine.{Machine, After, cost, whole_step}
+use Rattle.mips_machine.specs.Machine.{Machine, After, Costs, cost, whole_step}
 
 -- A step that told this leads to a machine, after which the run has these further ones.
 abbrev pub Follows : Outcome → List Machine → Type 0
@@ -28,12 +28,12 @@ abbrev pub values_of : List Machine → List State
 values_of machines = map (λ (m : Machine). m.values) machines
 
 -- The cycles of a unit over plain values: a trap costs nothing.
-abbrev pub step_cost : Stepped → ℕ
-step_cost (Went done s) = cost done
-step_cost (Ended done s) = cost done
-step_cost (Trapped kind address) = 0
+abbrev pub step_cost : Costs → Stepped → ℕ
+step_cost costs (Went done s) = cost costs done
+step_cost costs (Ended done s) = cost costs done
+step_cost costs (Trapped kind address) = 0
 
 -- The cycles of a run over plain values: those of its units together.
-abbrev pub run_cost : (ℕ → Option ℕ) → State → List State → ℕ
-run_cost code s [] = 0
-run_cost code s (t ∷ later) = step_cost (value_step code s) + run_cost code t later
+abbrev pub run_cost : Costs → (ℕ → Option ℕ) → State → List State → ℕ
+run_cost costs code s [] = 0
+run_cost costs code s (t ∷ later) = step_cost costs (value_step code s) + run_cost costs code t later

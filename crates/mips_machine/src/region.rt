@@ -1,22 +1,24 @@
-//! The regions of the machine's memory and the executable words in them.
+//! One region of the machine's memory, and the numbers in it.
 
-ghost use Rattle.std.specs.Prelude.{◌≡◌, ℕ, ◌+◌, ◌-◌, ◌≤◌, length, IsTrue, IfOk, OnOk, OnSome, All, ◌<◌};
-ghost use Rattle.mips_decode.specs.State.{code_at, holds_code, return_address, word_at};
+ghost use Rattle.std.specs.Prelude.{◌≡◌, ℕ, ◌+◌, ◌-◌, ◌<◌, ◌≤◌, length, IsTrue, IfOk, OnOk, OnSome, All};
 ghost use Rattle.elf_mips.specs.Segments.{EndsLow, IsFilled};
+ghost use Rattle.mips_decode.specs.Effect.{number_in, region_with};
+ghost use Rattle.mips_decode.specs.Memory.{IsSize};
+ghost use Rattle.mips_decode.specs.State.{covers, holds_code, is_writable, return_address, word_at};
 ghost use Rattle.mips_machine.specs.Image.{HasBytes, region_of};
 
 use elf_mips::Segment;
+use mips_decode::Touched;
 use std::alloc::AllocError;
 use std::alloc::Global;
 use std::marker::Model;
-use wcet_io::List;
 
 /// A stretch of memory with its flags (1 executable, 2 writable).
 #[derive(Debug, Drop)]
 pub struct Region {
     start: u32,
     flags: u32,
-    bytes: List<u8>,
+    bytes: Vec<u8>,
 }
 
 impl Model for Region {
@@ -25,9 +27,9 @@ impl Model for Region {
 
     ghost Value = { Region };
 
-    ghost view = { λ r. record { start = r.start; flags = r.flags; bytes = r.bytes } };
+    ghost view = { λ r. record { start = r.start; flags = r.flags; bytes = r.bytes.items } };
 
-    ghost invariant = { λ r. LiesLow r.start r.bytes };
+    ghost invariant = { λ r. LiesLow r.start r.bytes.items };
 }
 
 /// A copy of the bytes.
@@ -50,46 +52,59 @@ impl Region {
         Ok(Region {
             start: segment.address,
             flags: segment.flags,
-            bytes: List::from_vec(bytes),
+            bytes,
         })
     }
 
+    /// Whether all bytes from an address up to a size lie in the region.
+    pub fn covers(&self, address: u32, size: u32) -> bool
+        ensures held { result ≡ covers address size self.now }
+        ensures low { IsTrue result → address + size ≤ return_address }
+    {
+        let end = u64::from(self.start) + self.bytes.len() as u64;
+        self.start <= address && u64::from(address) + u64::from(size) <= end
+    }
+
     /// Whether the region holds an executable word at the address.
-    fn has_code(&self, address: u32) -> bool
+    pub fn has_code(&self, address: u32) -> bool
         ensures held { result ≡ holds_code address self.now }
         ensures low { IsTrue result → address + 4 ≤ return_address }
     {
-        self.start <= address
-            && u64::from(address) + 4 <= u64::from(self.start) + self.bytes.as_slice().len() as u64
-            && self.flags % 2 == 1
-            && !(self.flags / 2 % 2 == 1)
+        self.covers(address, 4) && self.flags % 2 == 1 && !(self.flags / 2 % 2 == 1)
+    }
+
+    /// Whether the region can be written.
+    pub fn is_writable(&self) -> bool
+        ensures { result ≡ is_writable self.now }
+    {
+        self.flags / 2 % 2 == 1
     }
 
     /// The big-endian word at an address whose four bytes the region holds.
-    fn word(&self, address: u32) -> u32
-        requires { IsTrue (holds_code address self.now) }
+    pub fn word(&self, address: u32) -> u32
+        requires { IsTrue (covers address 4 self.now) }
         ensures { result ≡ word_at (address - self.now.start) self.now.bytes }
     {
-        let bytes = self.bytes.as_slice();
-        let at = (address - self.start) as usize;
-        let high = u32::from(bytes[at]) * 256 + u32::from(bytes[at + 1]);
-        let low = u32::from(bytes[at + 2]);
-        (high * 256 + low) * 256 + u32::from(bytes[at + 3])
+        mips_decode::number_at(&self.bytes, 4, (address - self.start) as usize)
     }
-}
 
-/// The executable word at an address; none where there is no such word.
-pub fn code_word(regions: &[Region], address: u32) -> Option<u32>
-    ensures word { result ≡ code_at regions.now address }
-    ensures low { OnSome result (address + 4 ≤ return_address) }
-{
-    if !(address % 4 == 0) {
-        return None;
+    /// The number that an access finds.
+    pub fn number(&self, access: &Touched) -> u32
+        requires sized { IsSize access.now.size }
+        requires held { IsTrue (covers access.now.address access.now.size self.now) }
+        ensures { result ≡ number_in access.now self.now }
+    {
+        let at = (access.address - self.start) as usize;
+        mips_decode::number_at(&self.bytes, access.size, at)
     }
-    for region in regions {
-        if region.has_code(address) {
-            return Some(region.word(address));
-        }
+
+    /// Puts a number where an access is.
+    pub fn put(&mut self, access: &Touched, number: u32)
+        requires sized { IsSize access.now.size }
+        requires held { IsTrue (covers access.now.address access.now.size self.old) }
+        ensures { self.new ≡ region_with access.now number self.old }
+    {
+        let at = (access.address - self.start) as usize;
+        mips_decode::put_number(&mut self.bytes, number, access.size, at);
     }
-    None
 }

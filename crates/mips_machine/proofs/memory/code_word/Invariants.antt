@@ -2,7 +2,7 @@
 use Rattle.std.proofs.Common.{◌≡◌, drop}
 use Rattle.std.specs.Prelude.{find}
 use Rattle.mips_decode.specs.State.{holds_code}
-use Rattle.mips_machine.proofs.region.code_word.Given as goal
+use Rattle.mips_machine.proofs.memory.code_word.Given as goal
 
 abbrev pub invariant-loop-region : goal.invariant-loop-region
 invariant-loop-region l =
