@@ -1,3 +1,9 @@
+-- The lemmas of this crate.
 pub mod PlaceLemmas
 pub mod AccessLemmas
 pub mod EffectLemmas
+pub mod FillLemmas
+pub mod StartLemmas
+pub mod CodeLemmas
+pub mod KeptCode
+pub mod RunLemmas

@@ -8,7 +8,7 @@ use Rattle.mips_decode.specs.Effect.{region_of, region_with, regions_with}
 use Rattle.mips_machine.specs.Places.{StandsAt}
 
 -- Behind a region that fails the test, the first one stands one place earlier.
-StandsAt-behind : (test : Region → Bool) (region : Region) (regions : List Region) (place : ℕ) →
+pub StandsAt-behind : (test : Region → Bool) (region : Region) (regions : List Region) (place : ℕ) →
     StandsAt test (region ∷ regions) (suc place) → StandsAt test regions place
 StandsAt-behind test region regions place at = record {
   inside = omega (arith, at.inside);

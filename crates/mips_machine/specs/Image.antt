@@ -1,5 +1,5 @@
 -- What a start takes of an image, a profile and the given registers.
-use Rattle.std.specs.Prelude.{◌≡◌, ℕ, ◌+◌, ◌-◌, ◌<◌, List, [], ◌∷◌, ◌++◌, length, map, find, replicate, take, drop, Option, Some, None, option_map, All, true, slice_set, if◌then◌else◌}
+use Rattle.std.specs.Prelude.{◌≡◌, ℕ, ◌+◌, ◌-◌, ◌<◌, List, [], ◌∷◌, ◌++◌, length, map, find, fold, replicate, take, drop, Option, Some, None, option_map, All, true, slice_set, if◌then◌else◌}
 use Rattle.cache_config.specs.declared.profile.Profile.{Profile}
 use Rattle.cache_config.specs.declared.profile.Region.{Region as Area}
 use Rattle.cache_config.specs.Limits.{AreApart as AreSpansApart}
@@ -71,8 +71,7 @@ with_fill fill (region ∷ regions) =
 
 -- Fills are put in one after the other, so that a later one holds.
 abbrev pub with_fills : List Fill → List Region → List Region
-with_fills [] regions = regions
-with_fills (fill ∷ fills) regions = with_fills fills (with_fill fill regions)
+with_fills fills regions = fold (λ regions fill. with_fill fill regions) regions fills
 
 -- A fill lies in one region that can be written.
 abbrev pub IsFillable : List Region → Fill → Type 0

@@ -4,14 +4,20 @@ ghost use Rattle.std.specs.Prelude.{◌≡◌, ℕ, ◌+◌, ◌<◌, ◌≤◌,
 ghost use Rattle.mips_decode.specs.declared.instr.Instr.{Instr};
 ghost use Rattle.mips_decode.specs.declared.step.Touched.{Touched};
 ghost use Rattle.mips_decode.specs.State.{State, code_at, return_address};
+ghost use Rattle.mips_decode.specs.Start.{AreRegionsAtStart, AreRegistersAtStart};
 ghost use Rattle.mips_decode.specs.Step.{plain_done, unit_of};
+ghost use Rattle.mips_machine.specs.Image.{HasNoClash, IsFillable, general_at_start, registers_at_start, regions_of, setting_of, with_fills};
 ghost use Rattle.mips_decode.specs.Table.{IsValid};
 
 use crate::cost::Costs;
+use crate::fill::Fill;
 use crate::memory::Memory;
 use crate::outcome::Outcome;
 use crate::unit::{execute, fetch};
+use cache_config::Profile;
+use elf_mips::Image;
 use mips_decode::{Instr, Reg, Regs, Touched, TrapKind};
+use std::alloc::{AllocError, Global};
 use std::marker::Model;
 
 /// The place of return: the entry has returned when the next unit would be here.
@@ -38,8 +44,87 @@ impl Model for Machine {
         cycles = m.cycles; last = m.last; costs = m.costs } };
 }
 
+/// Sets registers 0, 28, 29 and 31 as a start has them.
+fn set_at_start(general: &mut [u32], pointer: Option<u32>, top: u32)
+    requires { length general.old ≡ 32 }
+    ensures value { general.new ≡ general_at_start pointer top general.old }
+    ensures small { All (λ number. number < 2 ^ 32) general.new }
+    ensures count { length general.new ≡ 32 }
+    ensures zero { slice_index general.new 0 ≡ 0 }
+    ensures stack { slice_index general.new 29 ≡ top }
+    ensures link { slice_index general.new 31 ≡ RETURN_ADDRESS }
+    ensures pointer { IfSome pointer (λ gp. slice_index general.new 28 ≡ gp) }
+{
+    general[0] = 0;
+    general[29] = top;
+    general[31] = RETURN_ADDRESS;
+    if let Some(pointer) = pointer {
+        general[28] = pointer;
+    }
+}
+
+/// The registers at the start, by the given ones and the profile.
+fn start_registers(mut general: [u32; 32], hi: u32, lo: u32, profile: &Profile) -> Regs
+    ensures value { result
+        ≡ registers_at_start profile.now (record { general = general; hi = hi; lo = lo }) }
+    ensures start { (entry : ℕ) → AreRegistersAtStart (setting_of profile.now entry) result }
+{
+    set_at_start(&mut general, profile.gp, profile.stack_top);
+    Regs { general, hi, lo }
+}
+
+/// The memory at the start: the image's and the profile's regions with the fills.
+fn start_memory(
+    alloc: Global,
+    image: &Image,
+    profile: &Profile,
+    fills: &[Fill],
+) -> Result<Memory, AllocError>
+    requires { All (IsFillable (regions_of image.now profile.now)) fills.now }
+    ensures filled { IfOk result
+        (λ m. m ≡ with_fills fills.now (regions_of image.now profile.now)) }
+    ensures start { IfOk result (AreRegionsAtStart (regions_of image.now profile.now)) }
+{
+    let mut memory = Memory::of_image(alloc, image, profile)?;
+    for fill in fills {
+        memory.fill(fill);
+    }
+    Ok(memory)
+}
+
 impl Machine {
-    ghost use Rattle.mips_machine.specs.Machine.{After, whole_step, moved};
+    ghost use Rattle.mips_machine.specs.Machine.{After, IsMachineStart, machine_at_start, moved, whole_step};
+
+    /// The machine before the first unit at the entry.
+    ///
+    /// Its memory is the image's segments, the profile's stack and its regions, zero but for the file's
+    /// bytes and the fills, of which a later one holds. Registers 0, 28, 29 and 31 are set (zero, the
+    /// global pointer where the profile has one, the stack's top, the place of return); the others are
+    /// the given ones.
+    pub fn start(
+        alloc: Global,
+        image: &Image,
+        profile: &Profile,
+        entry: u32,
+        regs: &Regs,
+        memory: &[Fill],
+    ) -> Result<Machine, AllocError>
+        requires apart { HasNoClash image.now profile.now }
+        requires fills { All (IsFillable (regions_of image.now profile.now)) memory.now }
+        ensures state { IfOk result
+            (λ m. m ≡ machine_at_start image.now profile.now entry regs.now memory.now) }
+        ensures start { IfOk result (IsMachineStart image.now profile.now entry) }
+    {
+        let memory = start_memory(alloc, image, profile, memory)?;
+        Ok(Machine {
+            regs: start_registers(regs.general, regs.hi, regs.lo, profile),
+            pc: entry,
+            memory,
+            cycles: 0,
+            last: None,
+            costs: Costs::of_profile(profile),
+        })
+    }
 
     /// Does one unit: a plain instruction, or a jump or branch with its delay slot (MIPS I architecture).
     ///

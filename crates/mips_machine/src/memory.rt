@@ -1,14 +1,20 @@
 //! The machine's memory: its regions, the executable words, and loads and stores.
 
-ghost use Rattle.std.specs.Prelude.{◌≡◌, ℕ, ◌+◌, ◌%◌, ◌<◌, ◌≤◌, IfNone, IfOk, IfErr, IfSome, OnSome, OnErr, All, false, Some};
+ghost use Rattle.std.specs.Prelude.{◌≡◌, ℕ, ◌+◌, ◌%◌, ◌<◌, ◌≤◌, ◌^◌, List, length, map, IfNone, IfOk, IfErr, OnOk, IfSome, OnSome, OnErr, All, false, Some};
 ghost use Rattle.mips_decode.specs.State.{code_at, covers, return_address};
 ghost use Rattle.mips_decode.specs.State.{Region, State};
 ghost use Rattle.mips_decode.specs.Effect.{Does, Traps, loaded, reg, stored, with_reg};
 ghost use Rattle.mips_decode.specs.Memory.{IsSize};
+ghost use Rattle.mips_decode.specs.Start.{AreRegionsAtStart};
+ghost use Rattle.mips_machine.specs.Image.{HasBytes, IsFillable, area_of, region_of, regions_of, stack_of, with_fill};
 ghost use Rattle.mips_machine.specs.Places.{StandsAt};
 
+use crate::fill::Fill;
 use crate::region::Region;
+use cache_config::Profile;
+use elf_mips::Image;
 use mips_decode::{LoadOp, StoreOp, Touched, TrapKind};
+use std::alloc::{AllocError, Global};
 use std::marker::Model;
 
 /// The regions of memory, which lie apart.
@@ -27,7 +33,8 @@ impl Model for Memory {
 }
 
 /// The place of the region that holds all bytes of an access.
-fn place_of(regions: &[Region], address: u32, size: u32) -> Option<usize>
+fn place_of(regions: &[Region], address: u32, size: u64) -> Option<usize>
+    requires { size < 2 ^ 63 }
     ensures place { IfSome result (StandsAt (covers address size) regions.now) }
     ensures none { IfNone result (All (λ region. covers address size region ≡ false) regions.now) }
 {
@@ -37,6 +44,28 @@ fn place_of(regions: &[Region], address: u32, size: u32) -> Option<usize>
         }
     }
     None
+}
+
+/// The place of the region that holds all bytes of a load or store.
+fn place_of_access(regions: &[Region], access: &Touched) -> Option<usize>
+    ensures place { IfSome result (StandsAt (covers access.now.address access.now.size) regions.now) }
+    ensures none { IfNone result
+        (All (λ region. covers access.now.address access.now.size region ≡ false) regions.now) }
+{
+    place_of(regions, access.address, u64::from(access.size))
+}
+
+/// The regions of an image's loaded segments, in order, each with a copy of its bytes.
+fn segment_regions(alloc: Global, image: &Image) -> Result<Vec<Region>, AllocError>
+    ensures regions { IfOk result (λ regions. regions.items ≡ map region_of image.now.segments) }
+    ensures bytes { OnOk result (All HasBytes image.now.segments) }
+{
+    let segments = image.segments.as_slice();
+    let mut regions = Vec::new(alloc);
+    for segment in segments {
+        regions.push(Region::of_segment(alloc, segment)?)?;
+    }
+    Ok(regions)
 }
 
 /// The executable word at an address; none where there is no such word.
@@ -56,11 +85,33 @@ fn code_word(regions: &[Region], address: u32) -> Option<u32>
 }
 
 impl Memory {
-    /// The memory of these regions.
-    pub fn of_regions(regions: Vec<Region>) -> Memory
-        ensures { result ≡ regions.items }
+    /// The memory of an image and a profile: the loaded segments, the stack and the profile's regions.
+    pub fn of_image(alloc: Global, image: &Image, profile: &Profile) -> Result<Memory, AllocError>
+        ensures regions { IfOk result (λ m. m ≡ regions_of image.now profile.now) }
+        ensures start { OnOk result (AreRegionsAtStart
+            (regions_of image.now profile.now) (regions_of image.now profile.now)) }
     {
-        Memory { regions }
+        let mut regions = segment_regions(alloc, image)?;
+        let stack = profile.stack_top - profile.stack_size;
+        regions.push(Region::zeros(alloc, stack, profile.stack_size + 64)?)?;
+        for area in profile.regions.as_slice() {
+            regions.push(Region::zeros(alloc, area.start, area.size)?)?;
+        }
+        Ok(Memory { regions })
+    }
+
+    /// Puts bytes into the region that holds them all, one that can be written.
+    pub fn fill(&mut self, fill: &Fill)
+        requires { IsFillable self.old fill.now }
+        ensures regions { self.new ≡ with_fill fill.now self.old }
+        ensures bytes { All (λ byte. byte < 256) fill.now.bytes }
+    {
+        let size = fill.bytes.as_slice().len() as u64;
+        let Some(place) = place_of(&self.regions, fill.address, size) else {
+            unreachable!()
+        };
+        let region = &mut self.regions[place];
+        region.fill(fill);
     }
 
     /// The executable word at an address; none where there is no such word.
@@ -85,7 +136,7 @@ impl Memory {
         if access.address % access.size != 0 {
             return Err(TrapKind::Misaligned);
         }
-        let Some(place) = place_of(&self.regions, access.address, access.size) else {
+        let Some(place) = place_of_access(&self.regions, &access) else {
             return Err(TrapKind::Outside);
         };
         let number = self.regions[place].number(&access);
@@ -106,7 +157,7 @@ impl Memory {
         if access.address % access.size != 0 {
             return Err(TrapKind::Misaligned);
         }
-        let Some(place) = place_of(&self.regions, access.address, access.size) else {
+        let Some(place) = place_of_access(&self.regions, &access) else {
             return Err(TrapKind::Outside);
         };
         let region = &mut self.regions[place];

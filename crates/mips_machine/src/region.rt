@@ -1,12 +1,13 @@
 //! One region of the machine's memory, and the numbers in it.
 
-ghost use Rattle.std.specs.Prelude.{◌≡◌, ℕ, ◌+◌, ◌-◌, ◌<◌, ◌≤◌, length, IsTrue, IfOk, OnOk, OnSome, All};
+ghost use Rattle.std.specs.Prelude.{◌≡◌, ℕ, ◌+◌, ◌-◌, ◌<◌, ◌≤◌, ◌^◌, length, IsTrue, IfOk, OnOk, OnSome, All};
 ghost use Rattle.elf_mips.specs.Segments.{EndsLow, IsFilled};
 ghost use Rattle.mips_decode.specs.Effect.{number_in, region_with};
 ghost use Rattle.mips_decode.specs.Memory.{IsSize};
 ghost use Rattle.mips_decode.specs.State.{covers, holds_code, is_writable, return_address, word_at};
-ghost use Rattle.mips_machine.specs.Image.{HasBytes, region_of};
+ghost use Rattle.mips_machine.specs.Image.{HasBytes, filled_region, region_of, spliced, zeros_at};
 
+use crate::fill::Fill;
 use elf_mips::Segment;
 use mips_decode::Touched;
 use std::alloc::AllocError;
@@ -40,6 +41,15 @@ fn copied(alloc: Global, bytes: &[u8]) -> Result<Vec<u8>, AllocError>
     Vec::from_slice(alloc, bytes)
 }
 
+/// Puts new bytes over others from an offset on.
+fn splice(bytes: &mut [u8], at: usize, new: &[u8])
+    requires { at + length new.now ≤ length bytes.old }
+    ensures bytes { bytes.new ≡ spliced at new.now bytes.old }
+    ensures small { All (λ byte. byte < 256) new.now }
+{
+    bytes[at..at + new.len()].copy_from_slice(new);
+}
+
 impl Region {
     /// The region of a loaded segment, with a copy of its bytes.
     pub fn of_segment(alloc: Global, segment: &Segment) -> Result<Region, AllocError>
@@ -56,13 +66,26 @@ impl Region {
         })
     }
 
+    /// A region of zeros that can be written.
+    pub fn zeros(alloc: Global, start: u32, size: u32) -> Result<Region, AllocError>
+        requires { start + size ≤ return_address }
+        ensures { IfOk result (λ r. r ≡ zeros_at start size) }
+    {
+        Ok(Region {
+            start,
+            flags: 2,
+            bytes: vec![in alloc; 0u8; size as usize]?,
+        })
+    }
+
     /// Whether all bytes from an address up to a size lie in the region.
-    pub fn covers(&self, address: u32, size: u32) -> bool
+    pub fn covers(&self, address: u32, size: u64) -> bool
+        requires { size < 2 ^ 63 }
         ensures held { result ≡ covers address size self.now }
         ensures low { IsTrue result → address + size ≤ return_address }
     {
         let end = u64::from(self.start) + self.bytes.len() as u64;
-        self.start <= address && u64::from(address) + u64::from(size) <= end
+        self.start <= address && u64::from(address) + size <= end
     }
 
     /// Whether the region holds an executable word at the address.
@@ -96,6 +119,16 @@ impl Region {
     {
         let at = (access.address - self.start) as usize;
         mips_decode::number_at(&self.bytes, access.size, at)
+    }
+
+    /// Puts bytes over those from an address on.
+    pub fn fill(&mut self, fill: &Fill)
+        requires { IsTrue (covers fill.now.address (length fill.now.bytes) self.old) }
+        ensures region { self.new ≡ filled_region fill.now self.old }
+        ensures bytes { All (λ byte. byte < 256) fill.now.bytes }
+    {
+        let at = (fill.address - self.start) as usize;
+        splice(&mut self.bytes, at, fill.bytes.as_slice());
     }
 
     /// Puts a number where an access is.
