@@ -1,5 +1,5 @@
 -- The executable words of an image, of its regions, and of the regions at a start are the same.
-use Rattle.std.proofs.Common.{◌≡◌, ℕ, ◌+◌, ◌-◌, ◌≤◌, ◌==◌, ◌&&◌, Bool, true, false, cond, List, [], ◌∷◌, length, drop, map, All, Option, Some, None, refl, ap, arith, rules, get_or-drop, add-zero, nat_le, not, ◌/◌, ◌%◌}
+use Rattle.std.proofs.Common.{◌≡◌, ℕ, ◌+◌, ◌-◌, ◌≤◌, ◌==◌, ◌&&◌, Bool, true, false, cond, List, [], ◌∷◌, ◌++◌, length, drop, map, All, Option, Some, None, refl, ap, ◌∙◌, arith, rules, get_or-drop, add-zero, nat_le, not, ◌/◌, ◌%◌}
 use Rattle.std.proofs.lemmas.Bool.Decides.{nat_tests}
 use Rattle.std.proofs.lemmas.Grind.{common_steps}
 use Rattle.std.proofs.lemmas.List.Elements.{All-head, All-tail}
@@ -8,9 +8,12 @@ use Rattle.elf_mips.specs.declared.segment.Segment.{Segment}
 use Rattle.elf_mips.specs.Fields.{number_at}
 use Rattle.elf_mips.specs.Segments.{IsFilled, holds, is_code} 
 use Rattle.elf_mips.specs.Segments.{code_at as image_code}
-use Rattle.mips_decode.specs.State.{Region, code_at, holds_code, is_executable, is_writable, word_at}
+use Rattle.mips_decode.specs.State.{Region, code_at, covers, holds_code, is_executable, is_writable, word_at}
 use Rattle.mips_decode.specs.Start.{AreRegionsAtStart, IsRegionAtStart}
-use Rattle.mips_machine.specs.Image.{region_of}
+use Rattle.cache_config.specs.declared.profile.Profile.{Profile}
+use Rattle.cache_config.specs.declared.profile.Region.{Region as Area}
+use Rattle.elf_mips.specs.declared.image.Image.{Image}
+use Rattle.mips_machine.specs.Image.{area_of, region_of, regions_of, stack_of, zeros_at}
 
 -- A word read from an offset is the big-endian number of the four bytes there.
 pub word_at-number_at : (at : ℕ) (bytes : List ℕ) → word_at at bytes ≡ number_at 4 at bytes
@@ -45,10 +48,39 @@ find-regions_of address (segment ∷ more) filled =
         [ true ↦ ap Some (word_at-number_at (address - segment.address) segment.bytes)
         | false ↦ find-regions_of address more (All-tail IsFilled segment more filled) ])
 
-pub code_at-regions_of : (address : ℕ) (segments : List Segment) → All IsFilled segments →
-    code_at (map region_of segments) address ≡ image_code segments address
-code_at-regions_of address segments filled =
-    ap (λ (word : Option ℕ). cond (address % 4 == 0) word None) (find-regions_of address segments filled)
+-- Regions without code behind others change no search.
+front_by_head : (b : Bool) (region : Region) (left right : Option Region) → left ≡ right →
+    cond b (Some region) left ≡ cond b (Some region) right
+front_by_head true region left right same = refl
+front_by_head false region left right same = same
+
+find-front : (address : ℕ) (regions more : List Region) → find (holds_code address) more ≡ None →
+    find (holds_code address) (regions ++ more) ≡ find (holds_code address) regions
+find-front address [] more none = none
+find-front address (region ∷ regions) more none =
+    front_by_head (holds_code address region) region _ _ (find-front address regions more none)
+
+zeros_no_code : (address start size : ℕ) → holds_code address (zeros_at start size) ≡ false
+zeros_no_code address start size = by_cover (covers address 4 (zeros_at start size)) where
+  by_cover : (b : Bool) → (b && false && not true) ≡ false
+  by_cover true = refl
+  by_cover false = refl
+
+areas_no_code : (address : ℕ) (areas : List Area) → find (holds_code address) (map area_of areas) ≡ None
+areas_no_code address [] = refl
+areas_no_code address (area ∷ more) = rw (zeros_no_code address area.start area.size) (areas_no_code address more)
+
+-- The executable words of the regions of an image and a profile are the image's.
+pub code_at-regions_of : (address : ℕ) (image : Image) (profile : Profile) → All IsFilled image.segments →
+    code_at (regions_of image profile) address ≡ image_code image.segments address
+code_at-regions_of address image profile filled =
+    let stack = stack_of profile in
+    let none : find (holds_code address) (stack ∷ map area_of profile.regions) ≡ None =
+        rw (zeros_no_code address (profile.stack_top - profile.stack_size) (profile.stack_size + 64))
+            (areas_no_code address profile.regions) in
+    ap (λ (region : Option Region). cond (address % 4 == 0) (option_map (λ (r : Region). word_at (address - r.start) r.bytes) region) None)
+        (find-front address (map region_of image.segments) (stack ∷ map area_of profile.regions) none)
+    ∙ ap (λ (word : Option ℕ). cond (address % 4 == 0) word None) (find-regions_of address image.segments filled)
 
 -- A region that can be executed and can't be written has its given bytes at a start.
 last_false : (a w : Bool) → (a && not w) ≡ true → w ≡ false

@@ -14,7 +14,7 @@ use Rattle.wcet_engine.specs.declared.analysis.Analysis.{Analysis}
 use Rattle.wcet_engine.specs.declared.analysis.Refused.{Refused}
 use Rattle.wcet_engine.specs.declared.analysis.Refused.TheVariants.{Fault, Memory}
 use Rattle.wcet_engine.specs.Refusals.{kind_of, rank}
-use Rattle.wcet_engine.specs.Sentence.{Bounds}
+use Rattle.wcet_engine.specs.Sentence.{BoundsPlain}
 use Rattle.wcet_engine.specs.Line.{IsLine, line_cost}
 
 -- The most bytes of a file.
@@ -49,13 +49,13 @@ abbrev pub HasNoFault : List ℕ → Type 0
 HasNoFault file = (kind : RefusalKind) (place : ℕ) → Offends file kind place → ⊥
 
 -- What an analysis says of a file without a fault: the file's image, and the bound of its line, which no
--- run that the sentence speaks of exceeds.
+-- run that the sentence speaks of exceeds under the plain profile.
 pub record IsAnalysis (file : List ℕ) (analysis : Analysis) : Type 0 where
   pub faultless : HasNoFault file
   pub image : Image
   pub read : IsImage file image
   pub line : IsLineBound image analysis.bound
-  pub bounds : Bounds image image.entry analysis.bound
+  pub bounds : BoundsPlain image image.entry analysis.bound
 
 -- What an error says of a file; want of memory says nothing.
 abbrev pub TellsFault : List ℕ → Refused → Type 0

@@ -3,7 +3,6 @@ use Rattle.std.specs.Prelude.{◌≡◌, ℕ, zero, suc, ◌+◌, ◌*◌, Bool,
 use Rattle.mips_decode.specs.declared.instr.Instr.{Instr}
 use Rattle.mips_decode.specs.declared.instr.Instr.TheVariants.{Three, Shift, Imm, Lui, JumpReg}
 use Rattle.mips_decode.specs.Step.{Fetched, Found, fetched}
-use Rattle.mips_machine.specs.Machine.{cost_of}
 
 -- The operations on registers and immediates, which never leave the line.
 abbrev pub is_straight : Instr → Bool
@@ -11,7 +10,7 @@ is_straight (Three op rd rs rt) = true
 is_straight (Shift op rd rt by) = true
 is_straight (Imm op rt rs imm) = true
 is_straight (Lui rt imm) = true
-is_straight (JumpReg rs) = false
+is_straight instr = false
 
 -- The executable word at an address is one of these.
 pub record IsStraightAt (code : ℕ → Option ℕ) (address : ℕ) : Type 0 where

@@ -7,7 +7,7 @@ ghost use Rattle.mips_decode.specs.declared.instr.Instr.TheVariants.{JumpReg};
 ghost use Rattle.mips_decode.specs.Step.{fetched, Found};
 ghost use Rattle.wcet_engine.specs.Line.{IsLine, IsReturnAt, IsStraightAt, is_straight, line_cost};
 ghost use Rattle.wcet_engine.specs.Faults.{HasNoLine, IsLineBound};
-ghost use Rattle.wcet_engine.specs.Sentence.{Bounds};
+ghost use Rattle.wcet_engine.specs.Sentence.{BoundsPlain};
 
 use elf_mips::Image;
 use mips_decode::Instr;
@@ -24,7 +24,7 @@ fn is_straight(instr: &Instr) -> bool
 {
     match instr {
         Instr::Three { .. } | Instr::Shift { .. } | Instr::Imm { .. } | Instr::Lui { .. } => true,
-        Instr::JumpReg { .. } => false,
+        _ => false,
     }
 }
 
@@ -35,7 +35,7 @@ fn is_return(instr: &Instr) -> bool
 {
     match instr {
         Instr::JumpReg { rs } => rs.number() == 31,
-        Instr::Three { .. } | Instr::Shift { .. } | Instr::Imm { .. } | Instr::Lui { .. } => false,
+        _ => false,
     }
 }
 
@@ -97,7 +97,7 @@ fn line_length(image: &Image, entry: u32) -> Option<u64>
 /// The bound of an image whose entry begins a straight line; none where it begins no line.
 pub fn line_bound(image: &Image) -> Option<u64>
     ensures line { IfSome result (IsLineBound image.now) }
-    ensures bounds { IfSome result (Bounds image.now image.now.entry) }
+    ensures bounds { IfSome result (BoundsPlain image.now image.now.entry) }
     ensures none { IfNone result (HasNoLine image.now) }
 {
     let count = line_length(image, image.entry)?;

@@ -3,9 +3,6 @@
 ghost use Rattle.std.specs.Prelude.{◌≤◌, length};
 
 use crate::top::{Status, wcet_main};
-use elf_mips::read_image;
-use mips_decode::Reg;
-use mips_machine::{Machine, Outcome, Regs};
 use std::alloc::{AllocError, Global};
 use std::test::Fail;
 use wcet_io::{MemShelf, MemSink};
@@ -134,33 +131,5 @@ fn fails_only_with_the_outside(rt: HostRuntime) -> Result<(), Fail> {
     let full = answer(alloc, &["analyse", "f"], &file, &[], 4, &[2])?;
     assert_eq!(rt; full.0, Status::WriteFault);
     assert_eq!(rt; full.1.as_slice(), b"boun".as_slice());
-    Ok(())
-}
-
-#[test]
-fn runs_a_line_to_its_return(rt: HostRuntime) -> Result<(), Fail> {
-    let alloc = rt.alloc();
-    let file = file_of(alloc, &[0x2408_0005, 0, 0x03E0_0008, 0x2508_0001])?;
-    if file.len() > 1000 {
-        return Ok(());
-    }
-    let image = read_image(alloc, &file)?;
-    let regs = Regs {
-        general: [7; 32],
-        hi: 1,
-        lo: 2,
-    };
-    let mut machine = Machine::start(alloc, &image, ENTRY, &regs)?;
-    let mut last = Outcome::Going;
-    for _ in 0..3 {
-        assert_eq!(rt; last, Outcome::Going);
-        assert!(rt; machine.cycles() < 100);
-        last = machine.step();
-    }
-    assert_eq!(rt; last, Outcome::Returned);
-    assert_eq!(rt; machine.cycles(), 44);
-    assert_eq!(rt; machine.pc(), 0xFFFF_FFF0);
-    let eight = Reg::new(8).ok_or("no register 8")?;
-    assert_eq!(rt; machine.reg(eight), 6);
     Ok(())
 }
