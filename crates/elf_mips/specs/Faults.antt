@@ -1,90 +1,63 @@
--- Which fault a file has first: a list of rules, of which the first broken one is answered.
-use Rattle.std.specs.Prelude.{◌≡◌, ℕ, ◌+◌, ◌==◌, nat_le, not, Bool, List, [], ◌∷◌, length, Option, Some, None, if◌then◌else◌}
-use Rattle.elf_mips.specs.Fields.{magic, class, encoding, ident_version, e_type, e_machine, e_version, e_phoff, e_shoff, e_phentsize, e_phnum, e_shnum, p_type, p_offset, p_vaddr, p_filesz, p_memsz, p_flags}
+-- Which faults a file has, and which of them is answered.
+use Rattle.std.specs.Prelude.{◌≡◌, ℕ, ◌<◌, ◌≤◌, List, [], false, Some, All, Contains, ⊤}
+use Rattle.elf_mips.specs.Headers.{header_at, is_good}
+use Rattle.elf_mips.specs.Rules.{Rule, broken_places, first_place, size_rules, magic_rules, kind_rules, table_rules, segment_rules}
 use Rattle.elf_mips.specs.declared.fault.ElfKind.{ElfKind}
-use Rattle.elf_mips.specs.declared.fault.ElfKind.TheVariants.{Short, Unbuilt}
+use Rattle.elf_mips.specs.declared.fault.ElfKind.TheVariants.{Short, NotElf, NotThisKind, BadTable, BadSegment, BadSection, BadRecord}
 use Rattle.elf_mips.specs.declared.fault.ElfFault.{ElfFault}
 use Rattle.elf_mips.specs.declared.fault.ElfFault.TheVariants.{Bad, Memory}
 
--- A kind of fault and its place in the file.
-pub record Fault : Type 0 where
-  pub kind : ElfKind
-  pub offset : ℕ
+-- The rules of each kind. Sections and records aren't read.
+abbrev pub rules_of : ElfKind → List ℕ → List Rule
+rules_of Short file = size_rules file
+rules_of NotElf file = magic_rules file
+rules_of NotThisKind file = kind_rules file
+rules_of BadTable file = table_rules file
+rules_of BadSegment file = segment_rules file
+rules_of BadSection file = []
+rules_of BadRecord file = []
 
--- Whether a rule is broken, and the fault that is answered then.
-pub record Rule : Type 0 where
-  pub broken : Bool
-  pub fault : Fault
+-- The places of the faults of a kind.
+abbrev pub offenders : ElfKind → List ℕ → List ℕ
+offenders kind file = broken_places (rules_of kind file)
 
--- The fault of the first rule that is broken.
-abbrev pub first_broken : List Rule → Option Fault
-first_broken [] = None
-first_broken (rule ∷ rules) = if rule.broken then Some rule.fault else first_broken rules
+-- The order in which kinds are answered.
+abbrev pub order : ElfKind → ℕ
+order Short = 0
+order NotElf = 1
+order NotThisKind = 2
+order BadTable = 3
+order BadSegment = 4
+order BadSection = 5
+order BadRecord = 6
 
-abbrev pub wants : Bool → ElfKind → ℕ → Rule
-wants kept kind offset = record {
-  broken = not kept;
-  fault = record { kind = kind; offset = offset };
-}
+-- The kinds before the n-th have no fault.
+abbrev pub IsCleanBelow : ℕ → List ℕ → Type 0
+IsCleanBelow n file = (kind : ElfKind) → order kind < n → offenders kind file ≡ []
 
--- A big-endian MIPS I executable for 32 bits with one program header right behind its header, and no
--- section headers.
-abbrev pub header_rules : List ℕ → List Rule
-header_rules file =
-    wants (magic file == 0x7F454C46) Unbuilt 0
-    ∷ wants (class file == 1) Unbuilt 0
-    ∷ wants (encoding file == 2) Unbuilt 0
-    ∷ wants (ident_version file == 1) Unbuilt 0
-    ∷ wants (e_type file == 2) Unbuilt 0
-    ∷ wants (e_machine file == 8) Unbuilt 0
-    ∷ wants (e_version file == 1) Unbuilt 0
-    ∷ wants (e_phoff file == 52) Unbuilt 0
-    ∷ wants (e_shoff file == 0) Unbuilt 0
-    ∷ wants (e_phentsize file == 32) Unbuilt 0
-    ∷ wants (e_phnum file == 1) Unbuilt 0
-    ∷ wants (e_shnum file == 0) Unbuilt 0
-    ∷ []
+-- The file has no fault.
+abbrev pub IsClean : List ℕ → Type 0
+IsClean file = (kind : ElfKind) → offenders kind file ≡ []
 
--- The program header at this offset is loaded (PT_LOAD), readable and executable (PF_R and PF_X), its
--- part of the file lies in the file and is no longer than the segment, and the segment ends at
--- FFFFFFF0 or below and has at most 64 MiB.
-abbrev pub segment_rules : ℕ → List ℕ → List Rule
-segment_rules at file =
-    wants (p_type at file == 1) Unbuilt 0
-    ∷ wants (p_flags at file == 5) Unbuilt 0
-    ∷ wants (nat_le (p_offset at file + p_filesz at file) (length file)) Unbuilt 0
-    ∷ wants (nat_le (p_filesz at file) (p_memsz at file)) Unbuilt 0
-    ∷ wants (nat_le (p_vaddr at file + p_memsz at file) 0xFFFFFFF0) Unbuilt 0
-    ∷ wants (nat_le (p_memsz at file) 67108864) Unbuilt 0
-    ∷ []
+-- The fault that is answered: there is one of this kind at this place, no earlier kind has a fault,
+-- and this kind has none at a lesser place.
+pub record IsFirstFault (file : List ℕ) (kind : ElfKind) (place : ℕ) : Type 0 where
+  pub here : Contains (offenders kind file) place
+  pub first : IsCleanBelow (order kind) file
+  pub least : All (λ other. place ≤ other) (offenders kind file)
 
--- The earlier fault, where there is one.
-abbrev pub earlier_of : Option Fault → Option Fault → Option Fault
-earlier_of None later = later
-earlier_of (Some fault) later = Some fault
+-- An error is of this kind, at the place of the first broken one of the kind's rules.
+abbrev pub IsBroken : ElfKind → List Rule → ElfFault → Type 0
+IsBroken kind rules Memory = ⊥
+IsBroken kind rules (Bad k place) = (k ≡ kind) × (first_place rules ≡ Some place)
 
--- The file has the bytes of the header, and of the program header behind it.
-abbrev pub length_rules : List ℕ → List Rule
-length_rules file =
-    wants (nat_le 52 (length file)) Short (length file)
-    ∷ wants (nat_le 84 (length file)) Unbuilt 0
-    ∷ []
+-- An error says that the program header of this number is bad.
+abbrev pub RefusesHeader : List ℕ → ℕ → ElfFault → Type 0
+RefusesHeader file number Memory = ⊤
+RefusesHeader file number (Bad kind place) =
+    (kind ≡ BadSegment) × (place ≡ header_at file number) × (is_good file number ≡ false)
 
-unfoldable pub length_fault : List ℕ → Option Fault
-length_fault file = first_broken (length_rules file)
-
-unfoldable pub header_fault : List ℕ → Option Fault
-header_fault file = first_broken (header_rules file)
-
-unfoldable pub segment_fault : ℕ → List ℕ → Option Fault
-segment_fault at file = first_broken (segment_rules at file)
-
--- The first fault of a file.
-abbrev pub fault_of : List ℕ → Option Fault
-fault_of file =
-    earlier_of (length_fault file) (earlier_of (header_fault file) (segment_fault 52 file))
-
--- What an error says of the first fault; want of memory says nothing.
-abbrev pub Tells : ElfFault → Option Fault → Type 0
-Tells Memory fault = Unit {0}
-Tells (Bad kind offset) fault = fault ≡ Some (record { kind = kind; offset = offset })
+-- What an error says of a file; want of memory says nothing.
+abbrev pub Tells : List ℕ → ElfFault → Type 0
+Tells file Memory = ⊤
+Tells file (Bad kind place) = IsFirstFault file kind place

@@ -1,4 +1,4 @@
--- The fields of an ELF file for 32 bits, by the names of the System V ABI (chapter 4, "Object Files").
+-- The fields of an ELF file for 32 bits, named as in the System V ABI (chapter 4, "Object Files").
 use Rattle.std.specs.Prelude.{ℕ, ◌+◌, List, drop}
 use Rattle.byteorder.specs.Endian.{big_number}
 
@@ -44,8 +44,14 @@ e_phentsize file = number_at 2 0x2A file
 abbrev pub e_phnum : List ℕ → ℕ
 e_phnum file = number_at 2 0x2C file
 
+abbrev pub e_shentsize : List ℕ → ℕ
+e_shentsize file = number_at 2 0x2E file
+
 abbrev pub e_shnum : List ℕ → ℕ
 e_shnum file = number_at 2 0x30 file
+
+abbrev pub e_shstrndx : List ℕ → ℕ
+e_shstrndx file = number_at 2 0x32 file
 
 -- The program header at an offset.
 abbrev pub p_type : ℕ → List ℕ → ℕ

@@ -1,7 +1,9 @@
 -- What the contracts on ELF files and images of programs say.
 pub mod Fields
+pub mod Headers
 pub mod Segments
 pub mod Symbols
 pub mod Marks
+pub mod Rules
 pub mod Faults
 pub mod Image

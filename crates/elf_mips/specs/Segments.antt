@@ -1,7 +1,9 @@
 -- Loaded segments: which addresses they cover, and what they hold there.
-use Rattle.std.specs.Prelude.{◌≡◌, ℕ, ◌+◌, ◌-◌, ◌/◌, ◌%◌, ◌<◌, ◌≤◌, ◌==◌, ◌&&◌, nat_le, Bool, List, length, Option, None, option_map, find, All, AllPairs, sum_by, slice_index, if◌then◌else◌}
+use Rattle.std.specs.Prelude.{◌≡◌, ℕ, ◌+◌, ◌-◌, ◌/◌, ◌%◌, ◌<◌, ◌≤◌, ◌==◌, ◌&&◌, nat_le, nat_lt, Bool, List, map, length, true, Option, Some, None, IsSome, option_map, option_and_then, find, All, AllPairs, sum_by, slice_index, slice_index_or, if◌then◌else◌}
+use Rattle.std.specs.List.{enumerate_from, list_any}
 use Rattle.elf_mips.specs.Fields.{number_at}
 use Rattle.elf_mips.specs.declared.segment.Segment.{Segment}
+use Rattle.elf_mips.specs.declared.segment.Start.{Start}
 
 -- The n bytes from the address on lie in the segment.
 abbrev pub holds : ℕ → ℕ → Segment → Bool
@@ -25,6 +27,13 @@ abbrev pub byte_at : List Segment → ℕ → Option ℕ
 byte_at segments address =
     option_map (λ s. slice_index s.bytes (address - s.address)) (find (holds 1 address) segments)
 
+-- The segment is the one that covers the address: whatever is looked for among those that cover it
+-- is this one, or isn't there.
+abbrev pub Finds : ℕ → List Segment → Option Segment → Type 0
+Finds address segments found =
+    (test : Segment → Bool) → ((s : Segment) → test s ≡ true → holds 1 address s ≡ true)
+    → find test segments ≡ option_and_then (λ s. if test s then Some s else None) found
+
 -- The segment covers the address.
 abbrev pub Covers : Segment → ℕ → Type 0
 Covers s address = (s.address ≤ address) × (address < s.address + s.size)
@@ -45,6 +54,33 @@ EndsLow s = s.address + s.size ≤ 0xFFFFFFF0
 -- The bytes of all segments together.
 abbrev pub total_size : List Segment → ℕ
 total_size segments = sum_by (λ s. s.size) segments
+
+-- The segment shares an address with those from `address` to below `end`.
+abbrev pub shares : ℕ → ℕ → Segment → Bool
+shares address end s = nat_lt s.address end && nat_lt address (s.address + s.size)
+
+-- The segment begins at the address.
+abbrev pub begins_at : ℕ → Segment → Bool
+begins_at address s = s.address == address
+
+-- A segment's end stands under its address.
+abbrev pub HasEnd : (ℕ → Option ℕ) → Segment → Type 0
+HasEnd end_of s = end_of s.address ≡ Some (s.address + s.size)
+
+-- Ends stand only under addresses at which segments begin.
+abbrev pub AreBegun : (ℕ → Option ℕ) → List Segment → Type 0
+AreBegun end_of segments =
+    (address : ℕ) → IsSome (end_of address) → list_any (begins_at address) segments ≡ true
+
+-- Where each segment begins, with its number, from 0.
+abbrev pub starts_of : List Segment → List Start
+starts_of segments =
+    map (λ p. record { address = p.1.address; number = p.0 }) (enumerate_from 0 segments)
+
+-- The start is that of the segment of its number.
+pub record IsStartOf (segments : List Segment) (start : Start) : Type 0 where
+  pub there : start.number < length segments
+  pub begins : (d : Segment) → start.address ≡ (slice_index_or segments start.number d).address
 
 -- What the segments of every image keep.
 pub record AreLawful (segments : List Segment) : Type 0 where

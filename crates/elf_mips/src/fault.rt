@@ -1,6 +1,6 @@
 //! What is wrong with a file, and where.
 
-ghost use Rattle.std.specs.Prelude.{◌≡◌, true, false, IfErr, OnOk};
+ghost use Rattle.std.specs.Prelude.{◌≡◌, ◌<◌, ◌^◌, true, false, IfErr, OnOk};
 
 use std::alloc::{AllocError, AllocFailed};
 
@@ -9,8 +9,18 @@ use std::alloc::{AllocError, AllocFailed};
 pub enum ElfKind {
     /// The file has fewer bytes than an ELF header. The place is its length.
     Short,
-    /// The file isn't a big-endian MIPS I executable with one program header. The place is 0.
-    Unbuilt,
+    /// The file doesn't begin with the magic number. The place is 0.
+    NotElf,
+    /// The file isn't a big-endian MIPS executable for 32 bits. The place is the field's.
+    NotThisKind,
+    /// A table of headers isn't as the header has to say. The place is the field's.
+    BadTable,
+    /// A loaded segment is bad. The place is its program header's.
+    BadSegment,
+    /// A section that is read is bad. The place is its section header's.
+    BadSection,
+    /// A record is bad. The place is the record's.
+    BadRecord,
 }
 
 /// Why a file gives no image.
@@ -43,13 +53,17 @@ impl<T: Drop> From<AllocFailed<T>> for ElfFault {
 }
 
 /// Goes on where a rule is kept, and answers its fault where it is broken.
-pub fn keep(kept: bool, kind: ElfKind, offset: u32) -> Result<(), ElfFault>
+pub fn keep(kept: bool, kind: ElfKind, offset: usize) -> Result<(), ElfFault>
+    requires { offset < 2 ^ 32 }
     ensures ok { OnOk result (kept ≡ true) }
     ensures err { IfErr result (λ e. (kept ≡ false) × (e ≡ ElfFault.Bad kind offset)) }
 {
     if kept {
         Ok(())
     } else {
-        Err(ElfFault::Bad { kind, offset })
+        Err(ElfFault::Bad {
+            kind,
+            offset: offset as u32,
+        })
     }
 }

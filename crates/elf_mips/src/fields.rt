@@ -1,15 +1,53 @@
-//! Numbers in a file, the highest byte first, and the offsets of the fields that are read.
+//! Numbers in a file, the highest byte first, and where the fields stand.
 
-ghost use Rattle.std.specs.Prelude.{◌≡◌, ◌+◌, ◌≤◌, length};
+ghost use Rattle.std.specs.Prelude.{◌≡◌, ◌+◌, ◌<◌, ◌≤◌, length};
 ghost use Rattle.elf_mips.specs.Fields.{number_at};
 
 use byteorder::{BigEndian, ByteOrder};
 
-/// The bytes of an ELF header.
-pub const HEADER_SIZE: usize = 52;
+/// Offsets of the ELF header's fields, by their names in the System V ABI.
+pub const EI_MAG: usize = 0x00;
 
-/// The bytes of a program header.
-pub const PROGRAM_HEADER_SIZE: usize = 32;
+pub const EI_CLASS: usize = 0x04;
+
+pub const EI_DATA: usize = 0x05;
+
+pub const EI_VERSION: usize = 0x06;
+
+pub const E_TYPE: usize = 0x10;
+
+pub const E_MACHINE: usize = 0x12;
+
+pub const E_VERSION: usize = 0x14;
+
+pub const E_ENTRY: usize = 0x18;
+
+pub const E_PHOFF: usize = 0x1C;
+
+pub const E_SHOFF: usize = 0x20;
+
+pub const E_PHENTSIZE: usize = 0x2A;
+
+pub const E_PHNUM: usize = 0x2C;
+
+pub const E_SHENTSIZE: usize = 0x2E;
+
+pub const E_SHNUM: usize = 0x30;
+
+pub const E_SHSTRNDX: usize = 0x32;
+
+/// Offsets of a program header's fields.
+pub const P_TYPE: usize = 0;
+
+pub const P_OFFSET: usize = 4;
+
+pub const P_VADDR: usize = 8;
+
+pub const P_FILESZ: usize = 16;
+
+pub const P_MEMSZ: usize = 20;
+
+pub const P_FLAGS: usize = 24;
 
 /// The number in one byte.
 pub fn u8_at(file: &[u8], at: usize) -> u32
@@ -22,7 +60,8 @@ pub fn u8_at(file: &[u8], at: usize) -> u32
 /// The number in two bytes.
 pub fn u16_at(file: &[u8], at: usize) -> u32
     requires { at + 2 ≤ length file.now }
-    ensures { result ≡ number_at 2 at file.now }
+    ensures value { result ≡ number_at 2 at file.now }
+    ensures fits { result < 65536 }
 {
     u32::from(BigEndian::read_u16(&file[at..]))
 }

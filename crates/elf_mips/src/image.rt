@@ -1,11 +1,13 @@
 //! Images: what a program finds in memory when it starts.
 
-ghost use Rattle.std.specs.Prelude.{◌≡◌, ℕ, ◌+◌, ◌^◌, ◌<◌, ◌≤◌, ◌&&◌, true, [], All, AllPairs, length, find, option_map, IsTrue, IfOk, IfSome, OnSome};
-ghost use Rattle.elf_mips.specs.Segments.{IsFilled, EndsLow, AreApart, AreLawful, total_size, holds, is_code};
+ghost use Rattle.std.specs.Prelude.{◌≡◌, ℕ, ◌+◌, ◌^◌, ◌<◌, ◌≤◌, true, [], All, AllPairs, length, slice_index_or, option_map, IsTrue, IfOk, IfSome, OnSome};
+ghost use Rattle.std.specs.List.Sorted.{IsPermutation, IsNonDecreasingBy};
+ghost use Rattle.elf_mips.specs.Segments.{IsFilled, EndsLow, AreApart, AreLawful, Finds, starts_of, total_size, holds};
 ghost use Rattle.elf_mips.specs.Marks.{is_lawful};
 
+use crate::index::{index_of, last_start};
 use crate::mark::Mark;
-use crate::segment::Segment;
+use crate::segment::{Segment, Start};
 use crate::symbol::Symbol;
 use std::alloc::{AllocError, Global};
 use wcet_io::List;
@@ -17,6 +19,8 @@ pub struct Image {
     pub entry: u32,
     /// The loaded segments, in the order of their program headers.
     pub segments: List<Segment>,
+    /// Where each segment begins, by rising addresses.
+    pub by_address: List<Start>,
     /// The symbols, in their order.
     pub symbols: List<Symbol>,
     /// The records, in their order.
@@ -24,6 +28,8 @@ pub struct Image {
     pub ghost filled: { All IsFilled segments },
     pub ghost low: { All EndsLow segments },
     pub ghost apart: { AllPairs AreApart segments },
+    pub ghost once: { ∥ IsPermutation (starts_of segments) by_address ∥₁ },
+    pub ghost rising: { IsNonDecreasingBy (λ start. start.address) by_address },
     pub ghost fits: { total_size segments ≤ 67108864 },
     pub ghost lawful: { All (λ m. is_lawful m ≡ true) marks },
     pub ghost counted: { length marks ≤ 65536 },
@@ -45,9 +51,11 @@ impl Image {
         ensures symbols { IfOk result (λ image. image.symbols ≡ []) }
         ensures marks { IfOk result (λ image. image.marks ≡ []) }
     {
+        let by_address = index_of(alloc, segments.as_slice())?;
         Ok(Image {
             entry,
             segments,
+            by_address,
             symbols: List::new(alloc),
             marks: List::new(alloc),
         })
@@ -61,7 +69,10 @@ impl Image {
         if address % 4 != 0 {
             return None;
         }
-        let segment = self.code_segment(address)?;
+        let segment = self.segment_at(address)?;
+        if !segment.holds(4, address) || !segment.is_code() {
+            return None;
+        }
         Some(segment.word_from(address))
     }
 
@@ -85,32 +96,31 @@ impl Image {
         None
     }
 
-    /// The first segment of code that holds the word at an address.
-    fn code_segment(&self, address: u32) -> Option<&Segment>
-        ensures first { option_map (λ s. s.now) result ≡ find (λ s. holds 4 address s && is_code s) self.now.segments }
-        ensures held { IfSome result (λ s. IsTrue (holds 4 address s.now)) }
+    /// The segment that covers an address: it can only be the last one that begins there or before.
+    fn segment_at(&self, address: u32) -> Option<&Segment>
+        ensures only { Finds address self.now.segments (option_map (λ s. s.now) result) }
+        ensures held { IfSome result (λ s. IsTrue (holds 1 address s.now)) }
         ensures filled { IfSome result (λ s. IsFilled s.now) }
         ensures low { IfSome result (λ s. EndsLow s.now) }
     {
-        for segment in self.segments.as_slice() {
-            if segment.holds(4, address) && segment.is_code() {
-                return Some(segment);
-            }
+        let start = match last_start(self.by_address.as_slice(), address) {
+            Some(start) => start,
+            None => return None,
+        };
+        let segment = self.segment(start.number);
+        if !segment.holds(1, address) {
+            return None;
         }
-        None
+        Some(segment)
     }
 
-    /// The first segment that covers an address.
-    fn segment_at(&self, address: u32) -> Option<&Segment>
-        ensures first { option_map (λ s. s.now) result ≡ find (holds 1 address) self.now.segments }
-        ensures held { IfSome result (λ s. IsTrue (holds 1 address s.now)) }
-        ensures filled { IfSome result (λ s. IsFilled s.now) }
+    /// The segment of a number, from 0.
+    fn segment(&self, number: usize) -> &Segment
+        requires { number < length self.now.segments }
+        ensures item { result.now ≡ slice_index_or self.now.segments number result.now }
+        ensures filled { IsFilled result.now }
+        ensures low { EndsLow result.now }
     {
-        for segment in self.segments.as_slice() {
-            if segment.holds(1, address) {
-                return Some(segment);
-            }
-        }
-        None
+        &self.segments.as_slice()[number]
     }
 }

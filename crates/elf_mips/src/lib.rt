@@ -1,12 +1,15 @@
 //! ELF files of MIPS I programs, and the images that they load.
 #![tactic(auto)]
 
+mod ends;
 mod fault;
 mod fields;
+mod header;
 mod image;
+mod index;
+mod loader;
 mod mark;
 mod reader;
-mod rules;
 mod segment;
 mod symbol;
 
@@ -14,7 +17,7 @@ pub use fault::{ElfFault, ElfKind};
 pub use image::Image;
 pub use mark::Mark;
 pub use reader::read_image;
-pub use segment::Segment;
+pub use segment::{Segment, Start};
 pub use symbol::Symbol;
 
 #[cfg(test)]

@@ -18,6 +18,15 @@ pub struct Segment {
     pub bytes: List<u8>,
 }
 
+/// Where a segment begins.
+#[derive(Clone, Copy, Debug)]
+pub struct Start {
+    /// The address of its first byte.
+    pub address: u32,
+    /// Its number in the order of the program headers, from 0.
+    pub number: usize,
+}
+
 impl Segment {
     ghost use Rattle.elf_mips.specs.Fields.{number_at};
     ghost use Rattle.elf_mips.specs.Segments.{holds, is_code};

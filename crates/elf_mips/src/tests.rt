@@ -5,28 +5,35 @@ use std::alloc::{AllocError, Global};
 use std::test::Fail;
 use wcet_io::List;
 
-/// The header of a file with one program header right behind it.
-const HEADER: [u32; 13] = [
-    0x7F45_4C46,
-    0x0102_0100,
-    0,
-    0,
-    0x0002_0008,
-    1,
-    0x0040_0000,
-    52,
-    0,
-    0,
-    0x0034_0020,
-    0x0001_0028,
-    0,
-];
+/// The program header of a segment of code at 00400000 whose 8 bytes are the file's last.
+const CODE: [u32; 8] = [1, 84, 0x0040_0000, 0x0040_0000, 8, 8, 5, 4];
 
-/// A file of one segment of code at 00400000, with these words.
-fn file_of(alloc: Global, size: u32, words: &[u32]) -> Result<Vec<u8>, AllocError> {
+/// A file with these one or two program headers behind its header, and then these words.
+fn file_of(alloc: Global, headers: &[[u32; 8]], words: &[u32]) -> Result<Vec<u8>, AllocError> {
+    // e_phnum and e_shentsize.
+    let counts = if headers.len() == 1 {
+        0x0001_0028
+    } else {
+        0x0002_0028
+    };
     let mut file = Vec::new(alloc);
-    push_words(&mut file, &HEADER)?;
-    push_words(&mut file, &[1, 84, 0x0040_0000, 0x0040_0000, 8, size, 5, 4])?;
+    push_words(
+        &mut file,
+        &[
+            0x7F45_4C46,
+            0x0102_0100,
+            0,
+            0,
+            0x0002_0008,
+            1,
+            0x0040_0000,
+            52,
+        ],
+    )?;
+    push_words(&mut file, &[0, 0, 0x0034_0020, counts, 0])?;
+    for header in headers {
+        push_words(&mut file, header)?;
+    }
     push_words(&mut file, words)?;
     Ok(file)
 }
@@ -52,7 +59,8 @@ fn fault_in(alloc: Global, file: &[u8]) -> Result<Option<(ElfKind, u32)>, Fail> 
 
 #[test]
 fn reads_a_return_whole(rt: HostRuntime) -> Result<(), Fail> {
-    let file = file_of(rt.alloc(), 12, &[0x03E0_0008, 0x2402_0007])?;
+    let header = [1, 84, 0x0040_0000, 0x0040_0000, 8, 12, 5, 4];
+    let file = file_of(rt.alloc(), &[header], &[0x03E0_0008, 0x2402_0007])?;
     assert_eq!(rt; file.len(), 92);
     let image = read_image(rt.alloc(), &file)?;
     assert_eq!(rt; image.entry, 0x0040_0000);
@@ -77,19 +85,44 @@ fn reads_a_return_whole(rt: HostRuntime) -> Result<(), Fail> {
 }
 
 #[test]
-fn answers_short_files(rt: HostRuntime) -> Result<(), Fail> {
-    let file = file_of(rt.alloc(), 8, &[0x03E0_0008, 0])?;
+fn answers_cut_files(rt: HostRuntime) -> Result<(), Fail> {
+    let file = file_of(rt.alloc(), &[CODE], &[0x03E0_0008, 0])?;
     for size in 0..92u32 {
-        let kind = if size < 52 {
+        let fault = if size < 52 {
             (ElfKind::Short, size)
+        } else if size < 84 {
+            (ElfKind::BadTable, 0x1C)
         } else {
-            (ElfKind::Unbuilt, 0)
+            (ElfKind::BadSegment, 0x34)
         };
         let part = file.get(..size as usize).ok_or("a shorter file")?;
-        assert_eq!(rt; fault_in(rt.alloc(), part)?, Some(kind), "at {size}");
+        assert_eq!(rt; fault_in(rt.alloc(), part)?, Some(fault), "at {size}");
     }
     assert_eq!(rt; fault_in(rt.alloc(), &file)?, None);
+    assert_eq!(rt; fault_in(rt.alloc(), &[0; 52])?, Some((ElfKind::NotElf, 0)));
     Ok(())
+}
+
+/// The kind and the place of the fault where the lowest bit of this byte is turned.
+fn turned(at: u32) -> Option<(ElfKind, u32)> {
+    match at {
+        0..4 => Some((ElfKind::NotElf, 0)),
+        4..7 => Some((ElfKind::NotThisKind, at)),
+        0x10..0x14 => Some((ElfKind::NotThisKind, at / 2 * 2)),
+        0x14..0x18 => Some((ElfKind::NotThisKind, 0x14)),
+        // A program header that begins at 53 has another type, and none fit behind a larger offset.
+        0x1C..0x1F => Some((ElfKind::BadTable, 0x1C)),
+        // A place of section headers, but no section headers.
+        0x20..0x24 => Some((ElfKind::BadTable, 0x30)),
+        0x2A..0x2C => Some((ElfKind::BadTable, 0x2A)),
+        // 257 program headers don't fit.
+        0x2C => Some((ElfKind::BadTable, 0x1C)),
+        // Section headers from 0 on: 256 don't fit, and the name of one section is section 0.
+        0x30 => Some((ElfKind::BadTable, 0x20)),
+        // The part of the file doesn't lie in the file.
+        0x38..0x3C | 0x44..0x48 => Some((ElfKind::BadSegment, 0x34)),
+        _ => None,
+    }
 }
 
 /// Turns the lowest bit of a byte.
@@ -101,28 +134,39 @@ fn turn(file: &mut [u8], at: usize) {
 
 #[test]
 fn looks_at_each_field(rt: HostRuntime) -> Result<(), Fail> {
-    let mut file = file_of(rt.alloc(), 8, &[0x03E0_0008, 0])?;
-    // The lowest bit of each byte is turned in turn. The padding of e_ident, e_entry, e_flags,
-    // e_ehsize, e_shentsize, e_shstrndx, the addresses, p_memsz, p_align and the words may change.
-    let free = [
-        7..16,
-        0x18..0x1C,
-        0x24..0x2A,
-        0x2E..0x30,
-        0x32..0x34,
-        0x3C..0x44,
-        0x48..0x4C,
-        0x50..92,
+    let mut file = file_of(rt.alloc(), &[CODE], &[0x03E0_0008, 0])?;
+    for at in 0..92u32 {
+        turn(&mut file, at as usize);
+        assert_eq!(rt; fault_in(rt.alloc(), &file)?, turned(at), "at {at}");
+        turn(&mut file, at as usize);
+    }
+    Ok(())
+}
+
+#[test]
+fn looks_at_two_segments(rt: HostRuntime) -> Result<(), Fail> {
+    let bad = Some((ElfKind::BadSegment, 0x54));
+    // Type, address, part of the file, bytes in memory.
+    let cases = [
+        (1, 0x0040_0008, 8, 8, None),
+        (1, 0x0040_0007, 8, 8, bad),
+        (1, 0x003F_FFF8, 8, 8, None),
+        (1, 0x003F_FFF9, 8, 8, bad),
+        (1, 0x0040_0007, 1, 1, bad),
+        (1, 0x0030_0000, 8, 0x0020_0000, bad),
+        (1, 0x0050_0000, 8, 7, bad),
+        (1, 0xFFFF_FFE8, 8, 8, None),
+        (1, 0xFFFF_FFE9, 8, 8, bad),
+        (1, 0x1000_0000, 8, 67_108_857, bad),
+        (1, 0x0040_0000, 9, 0, None),
+        (0, 0x0040_0000, 8, 8, None),
+        (6, 0x0040_0000, 9, 8, None),
     ];
-    for at in 0..92usize {
-        let may_change = free.iter().any(|part| part.start <= at && at < part.end);
-        turn(&mut file, at);
-        assert_eq!(rt;
-            fault_in(rt.alloc(), &file)?.is_none(),
-            may_change,
-            "at {at}"
-        );
-        turn(&mut file, at);
+    for (kind, address, file_size, size, fault) in cases {
+        let code = [1, 116, 0x0040_0000, 0x0040_0000, 8, 8, 5, 4];
+        let second = [kind, 116, address, address, file_size, size, 6, 4];
+        let file = file_of(rt.alloc(), &[code, second], &[0x03E0_0008, 0])?;
+        assert_eq!(rt; fault_in(rt.alloc(), &file)?, fault, "at {address} {size}");
     }
     Ok(())
 }
