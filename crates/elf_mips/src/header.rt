@@ -1,6 +1,7 @@
 //! What the ELF header must keep, in the order in which faults are answered.
 
 ghost use Rattle.std.specs.Prelude.{◌≡◌, ◌+◌, ◌*◌, ◌<◌, ◌≤◌, ◌==◌, ◌||◌, nat_le, not, None, length, IfErr, OnOk};
+ghost use Rattle.elf_mips.specs.Fields.{e_shnum};
 ghost use Rattle.elf_mips.specs.Headers.{HasHeaders};
 ghost use Rattle.elf_mips.specs.Rules.{first_place, size_rules, magic_rules, kind_rules, table_rules};
 ghost use Rattle.elf_mips.specs.Faults.{IsBroken, IsCleanBelow, Tells};
@@ -23,6 +24,14 @@ pub fn check_header(file: &[u8]) -> Result<(), ElfFault>
     check_magic(file)?;
     check_kind(file)?;
     check_tables(file)
+}
+
+/// Whether the file has section headers.
+pub fn has_sections(file: &[u8]) -> bool
+    requires { 52 ≤ length file.now }
+    ensures { result ≡ not (e_shnum file.now == 0) }
+{
+    u16_at(file, E_SHNUM) != 0
 }
 
 /// The file has the bytes of a header.

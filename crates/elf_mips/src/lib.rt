@@ -14,6 +14,7 @@ mod segment;
 mod symbol;
 
 pub use fault::{ElfFault, ElfKind};
+pub use header::has_sections;
 pub use image::Image;
 pub use mark::Mark;
 pub use reader::read_image;

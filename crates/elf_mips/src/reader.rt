@@ -25,6 +25,7 @@ pub fn read_image(alloc: Global, bytes: &[u8]) -> Result<Image, ElfFault>
     ensures sound { OnOk result (IsClean bytes.now) }
     ensures image { IfOk result (IsImage bytes.now) }
     ensures err { IfErr result (Tells bytes.now) }
+    ensures long { OnOk result (52 ≤ length bytes.now) }
 {
     check_header(bytes)?;
     let segments = read_segments(alloc, bytes)?;

@@ -1,12 +1,13 @@
 -- The faults of a file, and which of them is answered.
-use Rattle.std.specs.Prelude.{◌≡◌, ℕ, ◌<◌, ◌≤◌, ◌⊎◌, List, length, Some}
+use Rattle.std.specs.Prelude.{◌≡◌, ℕ, ◌<◌, ◌≤◌, ◌⊎◌, List, length, Contains}
 use Rattle.elf_mips.specs.declared.fault.ElfKind.TheVariants as elf
 use Rattle.elf_mips.specs.declared.image.Image.{Image}
-use Rattle.elf_mips.specs.Faults.{fault_of}
+use Rattle.elf_mips.specs.Faults.{offenders}
+use Rattle.elf_mips.specs.Fields.{e_shnum}
 use Rattle.elf_mips.specs.Image.{IsImage}
 use Rattle.elf_mips.specs.Segments.{code_at}
 use Rattle.wcet_engine.specs.declared.refusal.RefusalKind.{RefusalKind}
-use Rattle.wcet_engine.specs.declared.refusal.RefusalKind.TheVariants.{TooLong, Short, Unbuilt}
+use Rattle.wcet_engine.specs.declared.refusal.RefusalKind.TheVariants.{TooLong, Short, NotElf, NotThisKind, BadTable, BadSegment, BadSection, BadRecord, Unbuilt}
 use Rattle.wcet_engine.specs.declared.refusal.Refusal.{Refusal}
 use Rattle.elf_mips.specs.declared.fault.ElfFault.{ElfFault}
 use Rattle.elf_mips.specs.declared.fault.ElfFault.TheVariants as elf_fault
@@ -30,13 +31,21 @@ abbrev pub IsLineBound : Image → ℕ → Type 0
 IsLineBound image bound =
     (count : ℕ) × IsLine (code_at image.segments) image.entry count × (bound ≡ line_cost count)
 
+-- The file is of no form that is analysed: it has section headers, or its entry begins no straight line.
+abbrev pub IsUnbuilt : List ℕ → Type 0
+IsUnbuilt file = (e_shnum file ≡ 0 → ⊥) ⊎ ((image : Image) × IsImage file image × HasNoLine image)
+
 -- A kind has an offender in the file at a place.
 abbrev pub Offends : List ℕ → RefusalKind → ℕ → Type 0
 Offends file TooLong place = (file_limit < length file) × (place ≡ file_limit)
-Offends file Short place = (length file < 52) × (place ≡ length file)
-Offends file Unbuilt place =
-    (place ≡ 0) × ((fault_of file ≡ Some (record { kind = elf.Unbuilt; offset = 0 }))
-    ⊎ ((image : Image) × IsImage file image × HasNoLine image))
+Offends file Short place = Contains (offenders elf.Short file) place
+Offends file NotElf place = Contains (offenders elf.NotElf file) place
+Offends file NotThisKind place = Contains (offenders elf.NotThisKind file) place
+Offends file BadTable place = Contains (offenders elf.BadTable file) place
+Offends file BadSegment place = Contains (offenders elf.BadSegment file) place
+Offends file BadSection place = Contains (offenders elf.BadSection file) place
+Offends file BadRecord place = Contains (offenders elf.BadRecord file) place
+Offends file Unbuilt place = (place ≡ 0) × IsUnbuilt file
 
 -- The first fault: no earlier kind has an offender, and no lesser place has one of this kind.
 pub record IsFirstFault (file : List ℕ) (refusal : Refusal) : Type 0 where

@@ -4,7 +4,7 @@ ghost use Rattle.std.specs.Prelude.{◌≡◌, ◌≤◌, length, IfOk, IfErr};
 
 use crate::line::line_bound;
 use crate::refusal::{Refusal, RefusalKind};
-use elf_mips::{ElfFault, read_image};
+use elf_mips::{ElfFault, has_sections, read_image};
 use std::alloc::Global;
 
 /// What the analysis of a file found.
@@ -22,6 +22,12 @@ pub enum Refused {
     /// No memory was left.
     Memory,
 }
+
+/// The file isn't of the form that is analysed.
+const UNBUILT: Refused = Refused::Fault(Refusal {
+    kind: RefusalKind::Unbuilt,
+    place: 0,
+});
 
 impl From<ElfFault> for Refused {
     ghost use Rattle.wcet_engine.specs.Faults.{refused_of};
@@ -51,11 +57,11 @@ pub fn analyse_bytes(alloc: Global, elf: &[u8]) -> Result<Analysis, Refused>
     ensures refused { IfErr result (TellsFault elf.now) }
 {
     let image = read_image(alloc, elf)?;
+    if has_sections(elf) {
+        return Err(UNBUILT);
+    }
     let Some(bound) = line_bound(&image) else {
-        return Err(Refused::Fault(Refusal {
-            kind: RefusalKind::Unbuilt,
-            place: 0,
-        }));
+        return Err(UNBUILT);
     };
     Ok(Analysis { bound })
 }

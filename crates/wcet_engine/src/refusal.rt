@@ -11,6 +11,18 @@ pub enum RefusalKind {
     TooLong,
     /// The file has fewer bytes than an ELF header has, 52. The place is its length.
     Short,
+    /// The file doesn't begin with the magic number of ELF. The place is 0.
+    NotElf,
+    /// The file isn't a big-endian MIPS executable for 32 bits. The place is the field's offset.
+    NotThisKind,
+    /// A table of headers isn't as the ELF header says. The place is the field's offset.
+    BadTable,
+    /// A loaded segment can't be loaded. The place is its program header's offset.
+    BadSegment,
+    /// A section that is read isn't as it should be. The place is its section header's offset.
+    BadSection,
+    /// A record isn't lawful. The place is its offset in the file.
+    BadRecord,
     /// The file isn't of the form that is analysed. The place is 0.
     Unbuilt,
 }
@@ -31,7 +43,12 @@ impl RefusalKind {
     {
         match kind {
             ElfKind::Short => RefusalKind::Short,
-            ElfKind::Unbuilt => RefusalKind::Unbuilt,
+            ElfKind::NotElf => RefusalKind::NotElf,
+            ElfKind::NotThisKind => RefusalKind::NotThisKind,
+            ElfKind::BadTable => RefusalKind::BadTable,
+            ElfKind::BadSegment => RefusalKind::BadSegment,
+            ElfKind::BadSection => RefusalKind::BadSection,
+            ElfKind::BadRecord => RefusalKind::BadRecord,
         }
     }
 
@@ -42,6 +59,12 @@ impl RefusalKind {
         match self {
             RefusalKind::TooLong => "too-long",
             RefusalKind::Short => "short",
+            RefusalKind::NotElf => "not-elf",
+            RefusalKind::NotThisKind => "not-this-kind",
+            RefusalKind::BadTable => "bad-table",
+            RefusalKind::BadSegment => "bad-segment",
+            RefusalKind::BadSection => "bad-section",
+            RefusalKind::BadRecord => "bad-record",
             RefusalKind::Unbuilt => "unbuilt",
         }
     }
