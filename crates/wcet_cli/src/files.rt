@@ -127,6 +127,6 @@ mod tests {
         assert_eq!(rt; two(&mut shelf, "file", 0), Some(*b"ot"));
         assert_eq!(rt; two(&mut shelf, "file", 3), Some(*b"er"));
         assert_eq!(rt; two(&mut shelf, "missing", 0), None);
-        Ok(())
+        fs::remove_file(&rt, "file")
     }
 }
