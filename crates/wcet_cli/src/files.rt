@@ -1,5 +1,5 @@
 //! The file system as a shelf, one file of which is open at a time.
-ghost use Rattle.std.specs.Prelude.{◌≡◌, ◌≤◌, None, length, IfOk};
+ghost use Rattle.std.specs.Prelude.{◌≡◌, ◌+◌, ◌^◌, ◌<◌, ◌≤◌, None, length, IfOk, OnOk, OnErr, IsSome, SomeIff, string_bytes};
 
 use std::alloc::Global;
 use std::fs;
@@ -39,9 +39,13 @@ impl<'a, R: Files> FileShelf<'a, R> {
         }
     }
 
-    /// Reads at a place of a file, which stays open where that went well.
+    /// Reads at a place of a file, which stays open where that went well, and else is closed.
     fn read_at(&mut self, name: &str, at: u64, buf: &mut [u8]) -> io::Result<usize>
         ensures bound { IfOk result (λ n. n ≤ length buf.new) }
+        ensures name { OnOk result (string_bytes self.new.name ≡ name.now) }
+        ensures open { OnOk result (IsSome self.new.file) }
+        ensures next { IfOk result (λ n. SomeIff self.new.next (at + n < 2 ^ 64) (at + n)) }
+        ensures closed { OnErr result (self.new.file ≡ None) }
         ensures faults { self.new.faults ≡ self.old.faults }
         ensures placed { self.new.placed ≡ self.old.placed }
     {
@@ -55,6 +59,8 @@ impl<'a, R: Files> FileShelf<'a, R> {
     /// The file, with its next byte at the place: the open one where that follows on, else one that
     /// is opened anew.
     fn file_at(&mut self, name: &str, at: u64) -> io::Result<R::File>
+        ensures name { OnOk result (string_bytes self.new.name ≡ name.now) }
+        ensures closed { self.new.file ≡ None }
         ensures faults { self.new.faults ≡ self.old.faults }
         ensures placed { self.new.placed ≡ self.old.placed }
     {
@@ -121,6 +127,6 @@ mod tests {
         assert_eq!(rt; two(&mut shelf, "file", 0), Some(*b"ot"));
         assert_eq!(rt; two(&mut shelf, "file", 3), Some(*b"er"));
         assert_eq!(rt; two(&mut shelf, "missing", 0), None);
-        Ok(())
+        fs::remove_file(&rt, "file")
     }
 }

@@ -1,7 +1,7 @@
 //! The program: its words, the real files and the standard output, and the exit status.
 #![tactic(auto)]
 
-ghost use Rattle.std.specs.Prelude.{◌≡◌};
+ghost use Rattle.std.specs.Prelude.{◌≡◌, ◌↔◌, ◌⊎◌};
 ghost use Rattle.std.specs.Option.{option_map};
 ghost use Rattle.wcet_cli.specs.Exits.{complaint, exit_number};
 
@@ -46,7 +46,10 @@ fn words_of(rt: &(impl env::Env + AllocGlobal)) -> io::Result<Vec<String>> {
 }
 
 /// Words that can't be read as text have no form; the other cause is want of memory.
-fn status_of(cause: ErrorKind) -> Status {
+fn status_of(cause: ErrorKind) -> Status
+    ensures memory { (result ≡ Status.Memory) ↔ (cause ≡ ErrorKind.OutOfMemory) }
+    ensures usage { (result ≡ Status.Memory) ⊎ (result ≡ Status.Usage) }
+{
     match cause {
         ErrorKind::OutOfMemory => Status::Memory,
         _ => Status::Usage,
