@@ -191,6 +191,7 @@ store-at Swr f rt base offset = refl
 
 -- Decoding gives back what was encoded.
 pub decoded-word_of : (instr : Instr) → IsValid instr → decoded (word_of instr) ≡ Some instr
+unfolding decoded
 decoded-word_of (Three op rd rs rt) v =
     ap by_fields (fields-register rs rt rd 0 (three_number op) v.1 v.2 v.0 (omega arith) (three_number-small op))
     ∙ three-at op (fields_of (word_of (Three op rd rs rt))) rd rs rt

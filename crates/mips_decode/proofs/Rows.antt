@@ -167,6 +167,7 @@ by_op-row w low =
 
 -- What the decoder finds is in the table.
 pub IfSome-decoded : (w : ℕ) → w < 2 ^ 32 → IfSome (decoded w) (IsRow w)
+unfolding decoded
 IfSome-decoded w low =
     let n = w / 2 ^ 26 % 2 ^ 6 in
     IfSome-map_or (IsRow w) _ (imm_op n) _

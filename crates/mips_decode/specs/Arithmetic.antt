@@ -38,7 +38,7 @@ wrapping_sum s t = (s + t) % 2 ^ 32
 abbrev pub wrapping_difference : ℕ → ℕ → ℕ
 wrapping_difference s t = (s + (2 ^ 32 - t)) % 2 ^ 32
 
--- 1 where the first number is less than the second, else 0: as signed numbers, and as unsigned ones.
+-- 1 where the first number is less than the second, else 0: as signed numbers, and as unsigned.
 abbrev pub is_less_signed : ℕ → ℕ → ℕ
 is_less_signed s t = from_bool (int_lt (signed s) (signed t))
 

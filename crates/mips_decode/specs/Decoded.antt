@@ -159,5 +159,7 @@ by_fields fields =
     (option_map_or (load fields) (load_op fields.op)
     (option_map_or (store fields) (store_op fields.op) (by_op fields)))
 
-abbrev pub decoded : ℕ → Option Instr
+-- The instruction that the table has for a word, if it has one. What crates above need of it is in
+-- the clauses of `decode` and in the lemmas of proofs/, so its body stays closed to them.
+unfoldable pub decoded : ℕ → Option Instr
 decoded word = by_fields (fields_of word)

@@ -35,7 +35,8 @@ link_address pc = (pc + 8) % 2 ^ 32
 abbrev pub branch_target : (pc offset : ℕ) → ℕ
 branch_target pc offset = (pc + 4 + sign_extended offset * 4) % 2 ^ 32
 
--- The target of J and JAL: the top four bits of the delay slot's address, then four times the index.
+-- The target of J and JAL: the top four bits of the delay slot's address, then four times the
+-- index.
 abbrev pub jump_target : (pc index : ℕ) → ℕ
 jump_target pc index = (pc + 4) / 2 ^ 28 * 2 ^ 28 + index * 4
 

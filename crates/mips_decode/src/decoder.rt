@@ -267,6 +267,7 @@ fn by_fields(fields: &Fields) -> Option<Instr>
 }
 
 /// The instruction that the table has for a word; none where it has no row.
+#[tactic(auto, unfolding(crate::specs::Decoded::decoded))]
 pub fn decode(word: u32) -> Option<Instr>
     ensures exact { result ≡ decoded word }
     ensures found { IfSome result (IsRow word) }

@@ -4,15 +4,17 @@
 mod arithmetic;
 mod columns;
 mod decoder;
+#[cfg(test)]
+mod edges;
 mod effect;
 mod encoder;
+#[cfg(test)]
+mod encodings;
 mod fields;
 mod instr;
 mod memory;
 mod numbers;
 mod step;
-#[cfg(test)]
-mod tests;
 mod transfer;
 
 pub use columns::{CostClass, cost_class, reads, writes};
