@@ -79,7 +79,7 @@ pub IsFirstFault-unbuilt : (file : List ℕ) → length file ≤ file_limit → 
 IsFirstFault-unbuilt file fits clean unbuilt = record {
   offends = (refl, unbuilt);
   first = clean-kinds file fits clean;
-  least = λ place less offends. absurd (omega arith)
+  least = λ place less offends. absurd (omega arith);
 }
 
 -- A file above its limit is too long, before all else.
@@ -91,7 +91,7 @@ pub IsFirstFault-long : (file : List ℕ) → file_limit < length file →
 IsFirstFault-long file long = record {
   offends = (long, refl);
   first = none-earlier file;
-  least = λ place less offends. absurd (omega (arith, offends.1))
+  least = λ place less offends. absurd (omega (arith, offends.1));
 }
 
 -- The reader's kinds among the kinds of refusals.
@@ -145,7 +145,7 @@ tells-bad file kind place fits fault =
       first = λ other spot earlier offends.
           earlier-kinds file (order kind) fits fault.first known.1 other spot (omega (arith, known.0, earlier)) offends;
       least = λ spot less offends.
-          none_below (offenders kind file) place spot fault.least less (contains-of file kind spot offends)
+          none_below (offenders kind file) place spot fault.least less (contains-of file kind spot offends);
     }
 
 pub TellsFault-tells : (file : List ℕ) (fault : ElfFault) → length file ≤ file_limit → Tells file fault →

@@ -36,8 +36,8 @@ Bounds-line image entry count filled line profile plain m start machines spoken 
     let same : code_at m.values.regions ≡ code = code_of_start image profile entry m filled start in
     let runs : RunsAs code m machines = runs_as code m machines same spoken.run in
     let most : run_cost m.costs code m.values (values_of machines) ≤ line_cost count =
-        run_cost-line m.costs code count m.values (values_of machines) (costs_of_start image profile entry m plain start)
-            (subst (λ (address : ℕ). IsLine code address count) (sym start.values.pc) line)
-            runs.run
-            (subst (λ (words : ℕ → Option ℕ). ReturnsToCallers words [] m.values (values_of machines)) same spoken.callers) in
+    run_cost-line m.costs code count m.values (values_of machines) (costs_of_start image profile entry m plain start)
+    (subst (λ (address : ℕ). IsLine code address count) (sym start.values.pc) line)
+    runs.run
+    (subst (λ (words : ℕ → Option ℕ). ReturnsToCallers words [] m.values (values_of machines)) same spoken.callers) in
     omega (arith, most, runs.cycles, start.cycles)

@@ -92,11 +92,11 @@ plain_done-joins costs s instr None next later plain joins = absurd joins
 plain_done-joins costs s instr (Some regs) next later plain joins =
     let t : State = record s { regs = regs; pc = s.pc + 4 } in
     let ends = ended-joins costs (s.pc + 4 == return_address)
-        (record { instructions = instr ∷ []; access = None; link = Straight }) t next later joins in
+    (record { instructions = instr ∷ []; access = None; link = Straight }) t next later joins in
     record {
       place = ap (λ (u : State). u.pc) (sym ends.state);
       cycles = omega (arith, ends.cycles, cost_of-line costs instr plain);
-      calls = λ calls. ended-calls (s.pc + 4 == return_address) (instr ∷ []) None t calls
+      calls = λ calls. ended-calls (s.pc + 4 == return_address) (instr ∷ []) None t calls;
     }
 
 straight-joins : (costs : Costs) (code : ℕ → Option ℕ) (s next : State) (later : List State) → AreLineCosts costs →
@@ -104,11 +104,11 @@ straight-joins : (costs : Costs) (code : ℕ → Option ℕ) (s next : State) (l
 straight-joins costs code s next later plain at joins =
     let unit = straight-plain at.instr at.straight in
     let e : value_step code s ≡ plain_done s at.instr (on_registers s (arithmetic at.instr s.regs)) =
-        ap (unit_fetched code s) at.there ∙ ap (unit_of code s at.instr) (unit.stays s.pc s.regs)
-        ∙ ap (plain_done s at.instr) (unit.registers s) in
+    ap (unit_fetched code s) at.there ∙ ap (unit_of code s at.instr) (unit.stays s.pc s.regs)
+    ∙ ap (plain_done s at.instr) (unit.registers s) in
     subst (λ (step : Stepped). MovesOn costs s next step) (sym e)
-        (plain_done-joins costs s at.instr (arithmetic at.instr s.regs) next later plain
-            (subst (λ (step : Stepped). Joins step next later) e joins))
+    (plain_done-joins costs s at.instr (arithmetic at.instr s.regs) next later plain
+    (subst (λ (step : Stepped). Joins step next later) e joins))
 
 -- What the return does when it returns to its caller with no call open: nothing follows it.
 record ComesBack (costs : Costs) (later : List State) (step : Stepped) : Type 0 where
@@ -135,7 +135,7 @@ slot_done-back costs s instr way slot (Some regs) next later plain returns back 
     let ends = ended-joins costs (way.next == return_address) done t next later joins in
     record {
       last = ended-back (way.next == return_address) done t next later refl returns back joins;
-      cycles = omega (arith, ends.cycles, cost_of-line costs instr plain, cost_of-line costs slot plain)
+      cycles = omega (arith, ends.cycles, cost_of-line costs instr plain, cost_of-line costs slot plain);
     }
 
 -- The step at a return.
@@ -145,13 +145,17 @@ return-step : (code : ℕ → Option ℕ) (s : State) → IsReturnAt code s.pc �
 return-step code s at =
     let way : Decided = record { next = reg s.regs 31; regs = s.regs; link = Returns } in
     let slot = at.slot.instr in
-    let unit = straight-plain slot at.slot.straight in
-    (way, slot, arithmetic slot s.regs, refl,
-     ap (unit_fetched code s) at.there
-     ∙ ap (slot_fetched s (JumpReg 31) way) at.slot.there
-     ∙ ap (λ (o : Option Decided). cond (is_some o) (Trapped Unknown (s.pc + 4)) (slot_done s (JumpReg 31) way slot (effect slot (record s { regs = s.regs }))))
-         (unit.stays (s.pc + 4) s.regs)
-     ∙ ap (slot_done s (JumpReg 31) way slot) (unit.registers (record s { regs = s.regs })))
+    let unit = straight-plain slot at.slot.straight in (
+      way,
+      slot,
+      arithmetic slot s.regs,
+      refl,
+      ap (unit_fetched code s) at.there
+          ∙ ap (slot_fetched s (JumpReg 31) way) at.slot.there
+          ∙ ap (λ (o : Option Decided). cond (is_some o) (Trapped Unknown (s.pc + 4)) (slot_done s (JumpReg 31) way slot (effect slot (record s { regs = s.regs }))))
+          (unit.stays (s.pc + 4) s.regs)
+          ∙ ap (slot_done s (JumpReg 31) way slot) (unit.registers (record s { regs = s.regs })),
+    )
 
 return-joins : (costs : Costs) (code : ℕ → Option ℕ) (s next : State) (later : List State) → AreLineCosts costs →
     IsReturnAt code s.pc → ReturnsToCaller [] (value_step code s) → Joins (value_step code s) next later →
@@ -159,9 +163,9 @@ return-joins : (costs : Costs) (code : ℕ → Option ℕ) (s next : State) (lat
 return-joins costs code s next later plain at back joins =
     let r = return-step code s at in
     subst (λ (step : Stepped). ComesBack costs later step) (sym r.4)
-        (slot_done-back costs s (JumpReg 31) r.0 r.1 r.2 next later plain r.3
-            (subst (λ (step : Stepped). ReturnsToCaller [] step) r.4 back)
-            (subst (λ (step : Stepped). Joins step next later) r.4 joins))
+    (slot_done-back costs s (JumpReg 31) r.0 r.1 r.2 next later plain r.3
+    (subst (λ (step : Stepped). ReturnsToCaller [] step) r.4 back)
+    (subst (λ (step : Stepped). Joins step next later) r.4 joins))
 
 -- Every run along a line that returns to its caller costs at most the line.
 pub run_cost-line : (costs : Costs) (code : ℕ → Option ℕ) (count : ℕ) (s : State) (states : List State) →
@@ -175,8 +179,8 @@ run_cost-line costs code (suc count) s [] plain line run back = omega arith
 run_cost-line costs code (suc count) s (t ∷ later) plain line run back =
     let moves = straight-joins costs code s t later plain line.0 run.0 in
     let rest : run_cost costs code t later ≤ line_cost count =
-        run_cost-line costs code count t later plain
-            (subst (λ (address : ℕ). IsLine code address count) (sym moves.place) line.1)
-            run.1
-            (subst (λ (calls : List Call). ReturnsToCallers code calls t later) (moves.calls []) back.1) in
+    run_cost-line costs code count t later plain
+    (subst (λ (address : ℕ). IsLine code address count) (sym moves.place) line.1)
+    run.1
+    (subst (λ (calls : List Call). ReturnsToCallers code calls t later) (moves.calls []) back.1) in
     omega (arith, rest, moves.cycles)

@@ -79,10 +79,15 @@ fn answer(
     Ok((status, out.taken().to_vec(alloc)?))
 }
 
+/// The line that `analyse` prints for a file, with its status.
+fn analysed(alloc: Global, bytes: &[u8]) -> Result<(Status, Vec<u8>), Fail> {
+    answer(alloc, &["analyse", "f"], bytes, &[], 16, &[])
+}
+
 #[test]
-fn prints_bounds_and_refusals(rt: HostRuntime) -> Result<(), Fail> {
+fn prints_bounds_and_unbuilt_forms(rt: HostRuntime) -> Result<(), Fail> {
     let alloc = rt.alloc();
-    let rows: [(&[u32], Status, &str); 5] = [
+    let rows: [(&[u32], Status, &str); 6] = [
         (&[0x03E0_0008, 0], Status::Done, "bound 22\n"),
         (
             &[0x2408_0005, 0, 0x03E0_0008, 0x2508_0001],
@@ -99,6 +104,11 @@ fn prints_bounds_and_refusals(rt: HostRuntime) -> Result<(), Fail> {
             Status::Refused,
             "refused unbuilt 00000000\n",
         ),
+        (
+            &[0x8FA8_0000, 0x03E0_0008, 0],
+            Status::Refused,
+            "refused unbuilt 00000000\n",
+        ),
         (&[], Status::Refused, "refused unbuilt 00000000\n"),
     ];
     for (words, status, line) in rows {
@@ -106,13 +116,45 @@ fn prints_bounds_and_refusals(rt: HostRuntime) -> Result<(), Fail> {
             return Ok(());
         }
         let file = file_of(alloc, words)?;
-        let got = answer(alloc, &["analyse", "f"], &file, &[], 16, &[])?;
+        let got = analysed(alloc, &file)?;
         assert_eq!(rt; got.0, status);
         assert_eq!(rt; got.1.as_slice(), line.as_bytes());
     }
-    let empty = answer(alloc, &["analyse", "f"], &[], &[], 16, &[])?;
+    Ok(())
+}
+
+#[test]
+fn prints_the_first_fault(rt: HostRuntime) -> Result<(), Fail> {
+    let alloc = rt.alloc();
+    let file = file_of(alloc, &[0x03E0_0008, 0])?;
+    assert_eq!(rt; file.len(), 92);
+    // The same file with one byte changed: where, to what, and the line.
+    let rows: [(usize, u8, &str); 6] = [
+        (0, 0, "refused not-elf 00000000\n"),
+        (5, 1, "refused not-this-kind 00000005\n"),
+        (0x2B, 31, "refused bad-table 0000002A\n"),
+        (0x30, 1, "refused bad-table 00000020\n"),
+        (0x31, 1, "refused unbuilt 00000000\n"),
+        (0x47, 9, "refused bad-segment 00000034\n"),
+    ];
+    for (place, byte, line) in rows {
+        let mut changed = file.as_slice().to_vec(alloc)?;
+        if place >= changed.len() {
+            return Ok(());
+        }
+        changed[place] = byte;
+        let got = analysed(alloc, &changed)?;
+        assert_eq!(rt; got.0, Status::Refused);
+        assert_eq!(rt; got.1.as_slice(), line.as_bytes());
+    }
+    let empty = analysed(alloc, &[])?;
     assert_eq!(rt; empty.0, Status::Refused);
     assert_eq!(rt; empty.1.as_slice(), b"refused short 00000000\n".as_slice());
+    let zeros = analysed(alloc, &[0; 52])?;
+    assert_eq!(rt;
+        zeros.1.as_slice(),
+        b"refused not-elf 00000000\n".as_slice()
+    );
     Ok(())
 }
 

@@ -14,12 +14,12 @@ returns-in_err-image-clause-refused c =
 pub returns-then-has_sections-clause-refused : goal.returns-then-has_sections-clause-refused
 returns-then-has_sections-clause-refused c =
     IsFirstFault-unbuilt c.args.elf.now c.requires c.in_ok-image.ensures.sound
-        (inl (some_sections c.args.elf.now c.has_sections.result c.has_sections.ensures c.if-has_sections.true))
+    (inl (some_sections c.args.elf.now c.has_sections.result c.has_sections.ensures c.if-has_sections.true))
 
 pub returns-in_default-clause-refused : goal.returns-in_default-clause-refused
 returns-in_default-clause-refused c =
     IsFirstFault-unbuilt c.args.elf.now c.requires c.in_ok-image.ensures.sound
-        (inr (c.in_ok-image.image, c.in_ok-image.ensures.image, c.in_default.ensures.none))
+    (inr (c.in_ok-image.image, c.in_ok-image.ensures.image, c.in_default.ensures.none))
 
 pub returns-clause-analysed : goal.returns-clause-analysed
 returns-clause-analysed c =
@@ -33,5 +33,5 @@ returns-clause-analysed c =
       image = image;
       read = c.in_ok-image.ensures.image;
       line = line;
-      bounds = c.in-Some.ensures.bounds
+      bounds = c.in-Some.ensures.bounds;
     }
