@@ -1,5 +1,5 @@
 -- The faults of the reader are the faults of the file.
-use Rattle.std.proofs.Common.{◌≡◌, ℕ, ◌<◌, ◌≤◌, ◌⊎◌, inl, inr, ◌==◌, not, Bool, true, false, List, [], ◌∷◌, ◌+◌, length, All, Contains, refl, sym, subst, ◌∙◌, arith}
+use Rattle.std.proofs.Common.{◌≡◌, ℕ, ◌<◌, ◌≤◌, inl, inr, ◌==◌, not, Bool, true, false, List, [], ◌∷◌, ◌+◌, length, All, Contains, refl, ◌∙◌, arith}
 use Rattle.std.proofs.lemmas.Bool.Decides.{nat_tests}
 use Rattle.elf_mips.specs.declared.fault.ElfKind.{ElfKind}
 use Rattle.elf_mips.specs.declared.fault.ElfKind.TheVariants as elf
@@ -15,7 +15,7 @@ use Rattle.wcet_engine.specs.declared.refusal.RefusalKind.{RefusalKind}
 use Rattle.wcet_engine.specs.declared.refusal.RefusalKind.TheVariants.{TooLong, Short, NotElf, NotThisKind, BadTable, BadSegment, BadSection, BadRecord, Unbuilt}
 use Rattle.wcet_engine.specs.Refusals.{kind_of, rank}
 use Rattle.wcet_engine.specs.Line.{IsLine}
-use Rattle.wcet_engine.specs.Faults.{HasNoFault, HasNoLine, IsFirstFault, IsUnbuilt, Offends, TellsFault, file_limit, refused_of}
+use Rattle.wcet_engine.specs.Faults.{HasNoFault, IsFirstFault, IsUnbuilt, Offends, TellsFault, file_limit, refused_of}
 
 -- An empty list contains nothing.
 nothing : (places : List ℕ) (place : ℕ) → places ≡ [] → Contains places place → ⊥

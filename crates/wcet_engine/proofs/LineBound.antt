@@ -1,20 +1,19 @@
 -- The cost of a line bounds every run that the sentence speaks of.
-use Rattle.std.proofs.Common.{◌≡◌, ℕ, ◌+◌, ◌≤◌, List, [], Option, All, map, sym, subst, ◌∙◌, arith}
+use Rattle.std.proofs.Common.{◌≡◌, ℕ, ◌≤◌, [], Option, All, sym, subst, ◌∙◌, arith}
 use Rattle.std.proofs.Math.Path.{fun_ext}
 use Rattle.cache_config.specs.declared.profile.Profile.{Profile}
 use Rattle.elf_mips.specs.declared.image.Image.{Image}
 use Rattle.elf_mips.specs.Segments.{IsFilled}
 use Rattle.elf_mips.specs.Segments.{code_at as image_code}
-use Rattle.mips_decode.specs.State.{State, code_at}
+use Rattle.mips_decode.specs.State.{code_at}
 use Rattle.mips_decode.specs.Calls.{ReturnsToCallers}
-use Rattle.mips_decode.specs.Transfer.{Call}
 use Rattle.mips_machine.specs.Image.{regions_of}
 use Rattle.mips_machine.specs.Machine.{IsMachineStart, Machine}
-use Rattle.mips_machine.specs.Run.{last_machine, run_cost, values_of}
+use Rattle.mips_machine.specs.Run.{run_cost, values_of}
 use Rattle.mips_machine.proofs.CodeLemmas.{code_at-regions_of, code_at-start}
 use Rattle.mips_machine.proofs.RunLemmas.{RunsAs, runs_as}
 use Rattle.wcet_engine.specs.Line.{IsLine, line_cost}
-use Rattle.wcet_engine.specs.Sentence.{BoundsPlain, IsPlain, IsSpokenOf}
+use Rattle.wcet_engine.specs.Sentence.{BoundsPlain, IsPlain}
 use Rattle.wcet_engine.proofs.LineLemmas.{AreLineCosts, run_cost-line}
 
 -- The executable words of a start are the image's.

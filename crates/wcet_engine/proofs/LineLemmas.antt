@@ -1,5 +1,5 @@
 -- The cycles of every run along a straight line.
-use Rattle.std.proofs.Common.{◌≡◌, ℕ, zero, suc, ◌+◌, ◌*◌, ◌≤◌, ◌==◌, Bool, true, false, cond, List, [], ◌∷◌, Option, Some, None, is_some, refl, sym, ap, subst, ◌∙◌, arith}
+use Rattle.std.proofs.Common.{◌≡◌, ℕ, zero, suc, ◌+◌, ◌≤◌, ◌==◌, Bool, true, false, cond, List, [], ◌∷◌, Option, Some, None, is_some, refl, sym, ap, subst, ◌∙◌, arith}
 use Rattle.std.proofs.lemmas.Bool.Decides.{nat_tests}
 use Rattle.mips_decode.specs.declared.instr.Instr.{Instr}
 use Rattle.mips_decode.specs.declared.instr.Instr.TheVariants.{Three, Shift, HiLo, MulDiv, Imm, Lui, Load, Store, Branch, Jump, JumpReg, JumpLink, Stop}
@@ -7,14 +7,14 @@ use Rattle.mips_decode.specs.declared.step.Regs.{Regs}
 use Rattle.mips_decode.specs.declared.step.Touched.{Touched}
 use Rattle.mips_decode.specs.declared.step.TrapKind.TheVariants.{Unknown}
 use Rattle.mips_decode.specs.State.{State, return_address}
-use Rattle.mips_decode.specs.Effect.{Effect, Does, Traps, arithmetic, effect, on_registers, reg}
+use Rattle.mips_decode.specs.Effect.{arithmetic, effect, on_registers, reg}
 use Rattle.mips_decode.specs.Columns.{class_of}
 use Rattle.mips_decode.specs.declared.columns.CostClass.{CostClass}
 use Rattle.mips_decode.specs.declared.columns.CostClass.TheVariants as cost
 use Rattle.cache_config.specs.Costs.{EachTakes}
 use Rattle.cache_config.specs.declared.profile.Cycles.{Cycles}
-use Rattle.mips_decode.specs.Transfer.{Call, Linking, Straight, Calls, Returns, Decided, decided}
-use Rattle.mips_decode.specs.Step.{Done, Stepped, Went, Returned, Trapped, Fetched, Found, Missing, fetched, ended, plain_done, slot_done, slot_fetched, unit_of, unit_fetched, value_step}
+use Rattle.mips_decode.specs.Transfer.{Call, Linking, Straight, Returns, Decided, decided}
+use Rattle.mips_decode.specs.Step.{Done, Stepped, Went, Returned, Trapped, plain_done, slot_done, slot_fetched, unit_of, unit_fetched, value_step}
 use Rattle.mips_decode.specs.Run.{IsRun, Joins}
 use Rattle.mips_decode.specs.Calls.{GoesBack, ReturnsToCaller, ReturnsToCallers, calls_after}
 use Rattle.mips_machine.specs.Machine.{Costs, cost as unit_cost, cost_of, cycles_of}

@@ -1,6 +1,6 @@
 -- The steps of the walk along a straight line.
-use Rattle.std.proofs.Common.{◌≡◌, ℕ, zero, suc, ◌+◌, ◌*◌, Option, refl, subst, sym, true, false, ◌∙◌, arith}
-use Rattle.mips_decode.specs.Step.{Found, fetched}
+use Rattle.std.proofs.Common.{◌≡◌, ℕ, zero, suc, ◌+◌, ◌*◌, Option, subst, sym, true, false, ◌∙◌, arith}
+use Rattle.mips_decode.specs.Step.{Found}
 use Rattle.mips_decode.specs.declared.instr.Instr.{Instr}
 use Rattle.mips_decode.specs.declared.instr.Instr.TheVariants.{JumpReg}
 use Rattle.wcet_engine.specs.Line.{IsLine, IsReturnAt, IsStraightAt, is_straight}

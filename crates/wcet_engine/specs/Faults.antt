@@ -1,5 +1,5 @@
 -- The faults of a file, and which of them is answered.
-use Rattle.std.specs.Prelude.{◌≡◌, ℕ, ◌<◌, ◌≤◌, ◌⊎◌, List, length, Contains}
+use Rattle.std.specs.Prelude.{◌≡◌, ℕ, ◌<◌, ◌⊎◌, List, length, Contains}
 use Rattle.elf_mips.specs.declared.fault.ElfKind.TheVariants as elf
 use Rattle.elf_mips.specs.declared.image.Image.{Image}
 use Rattle.elf_mips.specs.Faults.{offenders}

@@ -2,7 +2,7 @@
 use Rattle.std.specs.Prelude.{◌≡◌, ℕ, zero, suc, ◌+◌, ◌*◌, Bool, true, false, Option}
 use Rattle.mips_decode.specs.declared.instr.Instr.{Instr}
 use Rattle.mips_decode.specs.declared.instr.Instr.TheVariants.{Three, Shift, Imm, Lui, JumpReg}
-use Rattle.mips_decode.specs.Step.{Fetched, Found, fetched}
+use Rattle.mips_decode.specs.Step.{Found, fetched}
 
 -- The operations on registers and immediates, which never leave the line.
 abbrev pub is_straight : Instr → Bool

@@ -1,5 +1,5 @@
 -- The runs that keep the records of a file.
-use Rattle.std.specs.Prelude.{◌≡◌, ℕ, ◌==◌, ◌&&◌, Bool, List, map, filter, Option}
+use Rattle.std.specs.Prelude.{ℕ, ◌==◌, ◌&&◌, Bool, List, map, filter, Option}
 use Rattle.elf_mips.specs.declared.mark.Mark.{Mark}
 use Rattle.elf_mips.specs.declared.image.Image.{Image}
 use Rattle.mips_decode.specs.State.{State}

@@ -3,7 +3,7 @@ use Rattle.std.specs.Prelude.{◌≡◌, ℕ, ◌≤◌, List, [], None}
 use Rattle.cache_config.specs.Costs.{EachTakes}
 use Rattle.cache_config.specs.declared.profile.Profile.{Profile}
 use Rattle.elf_mips.specs.declared.image.Image.{Image}
-use Rattle.mips_decode.specs.State.{State, code_at}
+use Rattle.mips_decode.specs.State.{code_at}
 use Rattle.mips_decode.specs.Run.{HasReturned}
 use Rattle.mips_decode.specs.Calls.{ReturnsToCallers}
 use Rattle.mips_machine.specs.Machine.{Machine, IsMachineStart}

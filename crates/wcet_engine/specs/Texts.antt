@@ -1,5 +1,5 @@
 -- The printed texts. A line ends with one newline, fields are parted by one space.
-use Rattle.std.specs.Prelude.{ℕ, ◌^◌, ◌-◌, Bool, true, false, List, [], ◌++◌, codes}
+use Rattle.std.specs.Prelude.{ℕ, ◌^◌, ◌-◌, true, false, List, [], ◌++◌, codes}
 use Rattle.std.specs.Fmt.{decimal, digits, format_spec, padded_integral}
 use Rattle.wcet_engine.specs.declared.analysis.Analysis.{Analysis}
 use Rattle.wcet_engine.specs.declared.answer.Answer.{Answer}

@@ -1,8 +1,6 @@
 -- Each answer is the file's first fault, or an analysis of a file without one.
-use Rattle.std.proofs.Common.{◌≡◌, ℕ, arith, inl, inr}
-use Rattle.std.proofs.lemmas.Bool.Decides.{nat_tests}
+use Rattle.std.proofs.Common.{inl, inr}
 use Rattle.std.proofs.lemmas.Result.{err_from_is_err_and}
-use Rattle.elf_mips.specs.Fields.{e_shnum}
 use Rattle.wcet_engine.proofs.FaultLemmas.{HasNoFault-line, IsFirstFault-unbuilt, TellsFault-tells, no_sections, some_sections}
 use Rattle.wcet_engine.proofs.analysis.analyse_bytes.Goals as goal
 

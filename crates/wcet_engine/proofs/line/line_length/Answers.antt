@@ -1,6 +1,5 @@
 -- The walk keeps that the line begins with what it passed; it ends at the return or where no line goes on.
 use Rattle.std.proofs.Common.{rules}
-use Rattle.elf_mips.specs.Segments.{code_at}
 use Rattle.wcet_engine.proofs.LineSteps.{Begins-line, Begins-more, Begins-no_line}
 use Rattle.wcet_engine.proofs.line.line_length.Goals as goal
 
