@@ -46,7 +46,7 @@ trial() {
 trial "a function that returns at once" 0 "bound 22" "" analyse return.elf
 trial "an empty file" 2 "refused short 00000000" "" analyse empty
 trial "a file that is a byte too long" 2 "refused too-long 01000000" "" analyse too-long
-trial "a file of the greatest length" 2 "refused unbuilt 00000000" "" analyse longest
+trial "a file of the greatest length" 2 "refused not-elf 00000000" "" analyse longest
 trial "a missing file" 3 "" "read fault" analyse missing
 trial "a directory" 3 "" "read fault" analyse folder
 trial "no words" 1 "" "usage"
