@@ -1,7 +1,7 @@
 #!/bin/sh
 # Assembles the forms of tests/assembler.txt and compares what decode_words prints for their words.
 # It takes GNU's assembler for MIPS (Debian's binutils-mips-linux-gnu), else LLVM's, and skips
-# where neither is there. Usage: tests/assembler.sh PROGRAM, the built decode_words.
+# where neither is there. Usage: tests/assembler.sh PROGRAM, as crates/decode_words/out/decode_words.
 set -eu
 program=${1:?the built decode_words}
 forms=$(dirname "$0")/assembler.txt
