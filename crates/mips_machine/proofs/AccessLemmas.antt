@@ -1,14 +1,13 @@
 -- Loads and stores at the place of their region.
-use Rattle.std.proofs.Common.{◌≡◌, ℕ, ◌+◌, ◌%◌, ◌==◌, Bool, true, false, cond, List, [], ◌∷◌, length, get_or, set, All, Option, Some, None, refl, sym, ap, subst, ◌∙◌, arith}
+use Rattle.std.proofs.Common.{◌≡◌, ℕ, ◌%◌, ◌==◌, true, false, List, get_or, set, All, Option, Some, None, refl, sym, ap, ◌∙◌, arith}
 use Rattle.std.proofs.lemmas.Bool.Decides.{nat_tests}
 use Rattle.mips_decode.specs.declared.instr.LoadOp.{LoadOp}
 use Rattle.mips_decode.specs.declared.instr.StoreOp.{StoreOp}
 use Rattle.mips_decode.specs.declared.step.Touched.{Touched}
-use Rattle.mips_decode.specs.declared.step.TrapKind.{TrapKind}
 use Rattle.mips_decode.specs.declared.step.TrapKind.TheVariants.{Outside, ReadOnly}
 use Rattle.mips_decode.specs.State.{Region, State, covers, is_writable}
 use Rattle.mips_decode.specs.Memory.{load_touched, load_value, store_touched, store_value}
-use Rattle.mips_decode.specs.Effect.{Does, Effect, Traps, aligned_or, load_in, loaded, number_in, reg, region_of, region_with, regions_with, store_in, stored, with_reg}
+use Rattle.mips_decode.specs.Effect.{Does, Traps, aligned_or, load_in, loaded, number_in, reg, region_of, region_with, regions_with, store_in, stored, with_reg}
 use Rattle.mips_machine.specs.Places.{StandsAt}
 use Rattle.mips_machine.proofs.PlaceLemmas.{find-StandsAt, find-fails, regions_with-StandsAt}
 

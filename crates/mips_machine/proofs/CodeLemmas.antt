@@ -1,14 +1,13 @@
 -- The executable words of an image, of its regions, and of the regions at a start are the same.
-use Rattle.std.proofs.Common.{◌≡◌, ℕ, ◌+◌, ◌-◌, ◌≤◌, ◌==◌, ◌&&◌, Bool, true, false, cond, List, [], ◌∷◌, ◌++◌, length, drop, map, All, Option, Some, None, refl, ap, ◌∙◌, arith, rules, get_or-drop, add-zero, nat_le, not, ◌/◌, ◌%◌}
+use Rattle.std.proofs.Common.{◌≡◌, ℕ, ◌+◌, ◌-◌, ◌==◌, ◌&&◌, Bool, true, false, cond, List, [], ◌∷◌, ◌++◌, map, All, Option, Some, None, refl, ap, ◌∙◌, arith, get_or-drop, add-zero, nat_le, not, ◌/◌, ◌%◌}
 use Rattle.std.proofs.lemmas.Bool.Decides.{nat_tests}
-use Rattle.std.proofs.lemmas.Grind.{common_steps}
 use Rattle.std.proofs.lemmas.List.Elements.{All-head, All-tail}
-use Rattle.std.specs.Prelude.{find, option_map, slice_index}
+use Rattle.std.specs.Prelude.{find, option_map}
 use Rattle.elf_mips.specs.declared.segment.Segment.{Segment}
 use Rattle.elf_mips.specs.Fields.{number_at}
 use Rattle.elf_mips.specs.Segments.{IsFilled, holds, is_code} 
 use Rattle.elf_mips.specs.Segments.{code_at as image_code}
-use Rattle.mips_decode.specs.State.{Region, code_at, covers, holds_code, is_executable, is_writable, word_at}
+use Rattle.mips_decode.specs.State.{Region, code_at, covers, holds_code, is_writable, word_at}
 use Rattle.mips_decode.specs.Start.{AreRegionsAtStart, IsRegionAtStart}
 use Rattle.cache_config.specs.declared.profile.Profile.{Profile}
 use Rattle.cache_config.specs.declared.profile.Region.{Region as Area}

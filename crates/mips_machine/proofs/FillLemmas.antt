@@ -1,11 +1,11 @@
 -- Fills put bytes into regions that can be written, and leave a start.
-use Rattle.std.proofs.Common.{◌≡◌, ℕ, ◌+◌, ◌-◌, ◌<◌, ◌≤◌, nat_le, Bool, true, false, not, cond, zero, suc, List, [], ◌∷◌, ◌++◌, length, take, drop, get_or, set, map, All, Option, Some, None, refl, sym, ap, subst, ◌∙◌, arith, length-append, length-drop}
+use Rattle.std.proofs.Common.{◌≡◌, ℕ, ◌+◌, ◌-◌, ◌<◌, ◌≤◌, nat_le, Bool, true, false, cond, zero, suc, List, [], ◌∷◌, ◌++◌, length, take, drop, get_or, set, All, Option, Some, None, refl, sym, ap, ◌∙◌, arith, length-append, length-drop}
 use Rattle.std.proofs.lemmas.Bool.{and_parts}
 use Rattle.std.proofs.lemmas.Bool.Decides.{nat_tests}
 use Rattle.std.proofs.lemmas.List.{length-take}
-use Rattle.std.proofs.lemmas.List.Elements.{All-append, All-head, All-tail, All-take, All-drop}
+use Rattle.std.proofs.lemmas.List.Elements.{All-append, All-take, All-drop}
 use Rattle.std.proofs.lemmas.List.Sums.{fold-append}
-use Rattle.std.specs.Prelude.{find, fold, option_map}
+use Rattle.std.specs.Prelude.{find, option_map}
 use Rattle.mips_decode.specs.State.{Region, covers, is_writable}
 use Rattle.mips_decode.specs.Start.{AreRegionsAtStart, IsRegionAtStart}
 use Rattle.mips_machine.specs.declared.fill.Fill.{Fill}

@@ -1,10 +1,10 @@
 -- What stands at the place of an access is the region that it finds.
-use Rattle.std.proofs.Common.{◌≡◌, ℕ, zero, suc, ◌+◌, ◌<◌, Bool, true, false, cond, List, [], ◌∷◌, length, get_or, set, All, Option, Some, None, refl, sym, ap, ◌∙◌, arith}
+use Rattle.std.proofs.Common.{◌≡◌, ℕ, zero, suc, Bool, false, List, [], ◌∷◌, get_or, set, All, Some, None, refl, ap, arith}
 use Rattle.std.proofs.lemmas.List.Elements.{All-head, All-tail}
 use Rattle.std.specs.Prelude.{find}
 use Rattle.mips_decode.specs.declared.step.Touched.{Touched}
 use Rattle.mips_decode.specs.State.{Region, covers}
-use Rattle.mips_decode.specs.Effect.{region_of, region_with, regions_with}
+use Rattle.mips_decode.specs.Effect.{region_with, regions_with}
 use Rattle.mips_machine.specs.Places.{StandsAt}
 
 -- Behind a region that fails the test, the first one stands one place earlier.

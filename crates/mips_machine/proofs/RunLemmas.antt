@@ -1,10 +1,10 @@
 -- A run of the machine is a run over plain values, and its cycles are the costs of its units.
-use Rattle.std.proofs.Common.{◌≡◌, ℕ, ◌+◌, List, [], ◌∷◌, map, Option, refl, subst, sym, ap, ◌∙◌, arith}
+use Rattle.std.proofs.Common.{◌≡◌, ℕ, ◌+◌, List, [], ◌∷◌, Option, subst, sym, ap, ◌∙◌, arith}
 use Rattle.std.proofs.Math.Path.{fun_ext}
-use Rattle.mips_decode.specs.State.{State, code_at}
+use Rattle.mips_decode.specs.State.{code_at}
 use Rattle.mips_decode.specs.Step.{Stepped, Went, Returned, Trapped, value_step}
 use Rattle.mips_decode.specs.Run.{IsRun, Joins}
-use Rattle.mips_machine.specs.Machine.{Machine, After, Costs, after, cost, whole_step}
+use Rattle.mips_machine.specs.Machine.{Machine, Costs, after}
 use Rattle.mips_machine.specs.Run.{Follows, IsMachineRun, last_machine, run_cost, step_cost, values_of}
 use Rattle.mips_machine.proofs.KeptCode.{value_step-code}
 

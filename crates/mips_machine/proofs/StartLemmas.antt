@@ -1,5 +1,5 @@
 -- The regions of an image and a profile are regions at the start.
-use Rattle.std.proofs.Common.{ℕ, ◌<◌, List, [], ◌∷◌, ◌++◌, All, map, replicate, refl, arith}
+use Rattle.std.proofs.Common.{ℕ, ◌<◌, List, [], ◌∷◌, ◌++◌, All, map, refl, arith}
 use Rattle.std.proofs.lemmas.List.Elements.{All-head, All-replicate, All-tail}
 use Rattle.cache_config.specs.declared.profile.Profile.{Profile}
 use Rattle.cache_config.specs.declared.profile.Region.{Region as Area}

@@ -1,5 +1,5 @@
 -- The machine: the values of a program with the cycles that it has taken, and the step of one unit.
-use Rattle.std.specs.Prelude.{◌≡◌, ℕ, ◌+◌, ◌==◌, List, [], sum_by, None, Some, Option, if◌then◌else◌}
+use Rattle.std.specs.Prelude.{◌≡◌, ℕ, ◌+◌, ◌==◌, List, sum_by, None, Some, Option, if◌then◌else◌}
 use Rattle.cache_config.specs.declared.profile.Cycles.{Cycles}
 use Rattle.cache_config.specs.declared.profile.Profile.{Profile}
 use Rattle.elf_mips.specs.declared.image.Image.{Image}

@@ -1,9 +1,8 @@
 -- Each fill fits the memory so far, since it fits the given regions.
-use Rattle.std.proofs.Common.{◌<◌, arith, length, subst, sym, take, ◌++◌, ◌∷◌, [], List, refl}
+use Rattle.std.proofs.Common.{◌<◌, arith, length, subst, sym, take}
 use Rattle.std.proofs.lemmas.List.{take_more}
-use Rattle.mips_machine.specs.declared.fill.Fill.{Fill}
 use Rattle.mips_machine.specs.Image.{IsFillable, regions_of}
-use Rattle.mips_machine.proofs.FillLemmas.{FillsSoFar, FillsSoFar-more, IsFillable-at_start}
+use Rattle.mips_machine.proofs.FillLemmas.{FillsSoFar-more, IsFillable-at_start}
 use Rattle.mips_machine.proofs.machine.start_memory.Goals as goal
 
 pub fill-requires : goal.fill-requires

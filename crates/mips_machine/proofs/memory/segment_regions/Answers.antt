@@ -1,5 +1,5 @@
 -- One more segment's region is added, and that segment holds bytes.
-use Rattle.std.proofs.Common.{◌<◌, length, arith, rules, take}
+use Rattle.std.proofs.Common.{◌<◌, length, arith, take}
 use Rattle.std.proofs.lemmas.Grind.{common_steps}
 use Rattle.std.proofs.lemmas.List.{take_more}
 use Rattle.std.proofs.lemmas.List.Elements.{All-push}

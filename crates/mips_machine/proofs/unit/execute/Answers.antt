@@ -1,5 +1,5 @@
 -- An instruction that is no load, store or stop works on registers alone.
-use Rattle.std.proofs.Common.{◌≡◌, ℕ, ◌∙◌, rules}
+use Rattle.std.proofs.Common.{◌≡◌, ◌∙◌, rules}
 use Rattle.std.proofs.lemmas.Result.{MatchResult-weaker}
 use Rattle.mips_decode.specs.Effect.{arithmetic, effect, on_registers}
 use Rattle.mips_decode.specs.State.{State}
