@@ -13,7 +13,7 @@ pub StandsAt-behind : (test : Region → Bool) (region : Region) (regions : List
 StandsAt-behind test region regions place at = record {
   inside = omega (arith, at.inside);
   passes = at.passes;
-  before = λ earlier other less. at.before (suc earlier) other (omega arith)
+  before = λ earlier other less. at.before (suc earlier) other (omega arith);
 }
 
 pub find-StandsAt : (test : Region → Bool) (regions : List Region) (place : ℕ) (other : Region) →
@@ -28,7 +28,7 @@ pub find-fails : (test : Region → Bool) (regions : List Region) → All (λ re
 find-fails test [] fails = refl
 find-fails test (region ∷ regions) fails =
     rw (All-head (λ r. test r ≡ false) region regions fails)
-        (find-fails test regions (All-tail (λ r. test r ≡ false) region regions fails))
+    (find-fails test regions (All-tail (λ r. test r ≡ false) region regions fails))
 
 -- A number is put into the region at the place of its access.
 pub regions_with-StandsAt : (access : Touched) (number : ℕ) (regions : List Region) (place : ℕ) (other : Region) →
@@ -38,6 +38,6 @@ regions_with-StandsAt access number [] place other at = absurd (omega (arith, at
 regions_with-StandsAt access number (region ∷ regions) zero other at = rw (at.passes other) refl
 regions_with-StandsAt access number (region ∷ regions) (suc place) other at =
     rw (at.before 0 other (omega arith))
-        (ap (λ (rest : List Region). region ∷ rest)
-            (regions_with-StandsAt access number regions place other
-                (StandsAt-behind (covers access.address access.size) region regions place at)))
+    (ap (λ (rest : List Region). region ∷ rest)
+    (regions_with-StandsAt access number regions place other
+    (StandsAt-behind (covers access.address access.size) region regions place at)))
