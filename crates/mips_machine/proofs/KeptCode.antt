@@ -41,8 +41,8 @@ slot_fetched-code : (s : State) (instr : Instr) (way : Decided) (slot : Fetched)
 slot_fetched-code s instr way (Missing kind) next later joins = absurd joins
 slot_fetched-code s instr way (Found slot) next later joins =
     slot_by-code (is_some (decided slot (s.pc + 4) s.regs)) (Trapped Unknown (s.pc + 4)) s instr way slot
-        (effect slot (record s { regs = way.regs })) next later (λ h. h)
-        (effect-keeps slot (record s { regs = way.regs })) joins
+    (effect slot (record s { regs = way.regs })) next later (λ h. h)
+    (effect-keeps slot (record s { regs = way.regs })) joins
 
 unit_of-code : (code : ℕ → Option ℕ) (s : State) (instr : Instr) (way : Option Decided) (next : State) (later : List State) →
     Joins (unit_of code s instr way) next later → SameCode s next
