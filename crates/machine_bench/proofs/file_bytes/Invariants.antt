@@ -1,0 +1,6 @@
+-- Each word so far gave four bytes.
+use Rattle.std.proofs.Common.{◌*◌, ◌≤◌, length}
+use Rattle.machine_bench.proofs.file_bytes.Given as goal
+
+abbrev pub invariant-loop-word : goal.invariant-loop-word
+invariant-loop-word l = length l.bytes.items ≤ 4 * l.word-index

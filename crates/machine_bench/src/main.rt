@@ -1,0 +1,110 @@
+//! Runs a loop of arithmetic units and loads on the machine, for as many units as the input says, and prints
+//! the cycles: `bench/machine.sh` times it.
+#![tactic(auto)]
+
+ghost use Rattle.std.specs.Prelude.{◌≤◌, IfOk, length};
+
+use anyhow::{Result, bail};
+use cache_config::Profile;
+use elf_mips::read_image;
+use mips_machine::{Machine, Outcome, Regs, has_clash};
+use std::alloc::{AllocError, Global};
+use std::io::Stdin;
+
+/// Where the loop begins.
+const ENTRY: u32 = 0x0040_0000;
+
+/// An executable of one segment that holds the loop: its ELF header, its program header, and then
+///
+/// ```text
+/// 00400000  lw    $8, -4($29)
+/// 00400004  addu  $9, $9, $8
+/// 00400008  addiu $10, $10, 1
+/// 0040000C  j     00400000
+/// 00400010  addiu $11, $11, 3
+/// ```
+const FILE: [u32; 26] = [
+    0x7F45_4C46,
+    0x0102_0100,
+    0,
+    0,
+    0x0002_0008,
+    1,
+    ENTRY,
+    52,
+    0,
+    0,
+    0x0034_0020,
+    0x0001_0028,
+    0,
+    1,
+    84,
+    ENTRY,
+    ENTRY,
+    20,
+    20,
+    5,
+    4,
+    0x8FA8_FFFC,
+    0x0128_4821,
+    0x254A_0001,
+    0x0810_0000,
+    0x256B_0003,
+];
+
+fn main(rt: HostRuntime) -> Result<()> {
+    for line in rt.lines(rt.alloc()) {
+        let Ok(units) = line?.as_str().trim().parse::<u64>() else {
+            bail!("the input is a number of units");
+        };
+        let mut machine = loop_machine(rt.alloc())?;
+        let done = run(&mut machine, units);
+        let cycles = machine.cycles();
+        println!(rt; "units {done} cycles {cycles}")?;
+    }
+    Ok(())
+}
+
+/// The machine before the loop, with zero registers and the plain profile.
+fn loop_machine(alloc: Global) -> Result<Machine> {
+    let file = file_bytes(alloc)?;
+    let Ok(image) = read_image(alloc, &file) else {
+        bail!("the loop's file isn't read");
+    };
+    let profile = Profile::plain(alloc);
+    if has_clash(&image, &profile) {
+        bail!("the loop lies in the stack");
+    }
+    let regs = Regs {
+        general: [0; 32],
+        hi: 0,
+        lo: 0,
+    };
+    Ok(Machine::start(alloc, &image, &profile, ENTRY, &regs, &[])?)
+}
+
+/// The bytes of the loop's file.
+fn file_bytes(alloc: Global) -> Result<Vec<u8>, AllocError>
+    ensures { IfOk result (λ file. length file.items ≤ 104) }
+{
+    let mut bytes = Vec::new(alloc);
+    for word in FILE {
+        bytes.extend_from_slice(&u32::to_be_bytes(word))?;
+    }
+    Ok(bytes)
+}
+
+/// Does so many units, or fewer where the loop ends; how many were done.
+fn run(machine: &mut Machine, units: u64) -> u64 {
+    let mut done = 0;
+    for unit in 0..units {
+        if machine.cycles() >= 1 << 61 {
+            return done;
+        }
+        match machine.step() {
+            Outcome::Going => done = unit + 1,
+            Outcome::Returned | Outcome::Trap { .. } => return done,
+        }
+    }
+    done
+}
