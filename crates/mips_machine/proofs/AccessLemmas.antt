@@ -1,14 +1,13 @@
 -- Loads and stores at the place of their region.
-use Rattle.std.proofs.Common.{◌≡◌, ℕ, ◌+◌, ◌%◌, ◌==◌, Bool, true, false, cond, List, [], ◌∷◌, length, get_or, set, All, Option, Some, None, refl, sym, ap, subst, ◌∙◌, arith}
+use Rattle.std.proofs.Common.{◌≡◌, ℕ, ◌%◌, ◌==◌, true, false, List, get_or, set, All, Option, Some, None, refl, sym, ap, ◌∙◌, arith}
 use Rattle.std.proofs.lemmas.Bool.Decides.{nat_tests}
 use Rattle.mips_decode.specs.declared.instr.LoadOp.{LoadOp}
 use Rattle.mips_decode.specs.declared.instr.StoreOp.{StoreOp}
 use Rattle.mips_decode.specs.declared.step.Touched.{Touched}
-use Rattle.mips_decode.specs.declared.step.TrapKind.{TrapKind}
 use Rattle.mips_decode.specs.declared.step.TrapKind.TheVariants.{Outside, ReadOnly}
 use Rattle.mips_decode.specs.State.{Region, State, covers, is_writable}
 use Rattle.mips_decode.specs.Memory.{load_touched, load_value, store_touched, store_value}
-use Rattle.mips_decode.specs.Effect.{Does, Effect, Traps, aligned_or, load_in, loaded, number_in, reg, region_of, region_with, regions_with, store_in, stored, with_reg}
+use Rattle.mips_decode.specs.Effect.{Does, Traps, aligned_or, load_in, loaded, number_in, reg, region_of, region_with, regions_with, store_in, stored, with_reg}
 use Rattle.mips_machine.specs.Places.{StandsAt}
 use Rattle.mips_machine.proofs.PlaceLemmas.{find-StandsAt, find-fails, regions_with-StandsAt}
 
@@ -29,7 +28,7 @@ loaded-by : (s : State) (op : LoadOp) (rt address : ℕ) (access : Touched) (fou
     loaded s op rt address ≡ load_in s op rt address found
 loaded-by s op rt address access found same aligned finds =
     let start : loaded s op rt address ≡ aligned_or access (load_in s op rt address (region_of access s.regions)) =
-        ap (λ (a : Touched). aligned_or a (load_in s op rt address (region_of a s.regions))) (sym same) in
+    ap (λ (a : Touched). aligned_or a (load_in s op rt address (region_of a s.regions))) (sym same) in
     let even : (access.address % access.size == 0) ≡ true = grind (arith, nat_tests) in
     start ∙ rw (even, finds) refl
 
@@ -56,7 +55,7 @@ stored-by : (s : State) (op : StoreOp) (rt address : ℕ) (access : Touched) (fo
     stored s op rt address ≡ store_in s op rt address found
 stored-by s op rt address access found same aligned finds =
     let start : stored s op rt address ≡ aligned_or access (store_in s op rt address (region_of access s.regions)) =
-        ap (λ (a : Touched). aligned_or a (store_in s op rt address (region_of a s.regions))) (sym same) in
+    ap (λ (a : Touched). aligned_or a (store_in s op rt address (region_of a s.regions))) (sym same) in
     let even : (access.address % access.size == 0) ≡ true = grind (arith, nat_tests) in
     start ∙ rw (even, finds) refl
 
@@ -85,6 +84,6 @@ pub stored-found : (s : State) (op : StoreOp) (rt address : ℕ) (access : Touch
     stored s op rt address ≡ Does (Some access) (record s { regions = set regions place after })
 stored-found s op rt address access regions place region after old number same aligned memory at here writable before finds gives =
     let put : regions_with access (store_value op (address % 4) old number) s.regions ≡ set regions place after =
-        rw (memory, gives, here) (regions_with-StandsAt access (store_value op (address % 4) old number) regions place region at) in
+    rw (memory, gives, here) (regions_with-StandsAt access (store_value op (address % 4) old number) regions place region at) in
     stored-by s op rt address access (Some region) same aligned (found-at access regions s.regions place region memory at here)
     ∙ rw (writable, before, ← same, ← finds, put) refl

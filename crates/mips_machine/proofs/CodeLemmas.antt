@@ -1,14 +1,13 @@
 -- The executable words of an image, of its regions, and of the regions at a start are the same.
-use Rattle.std.proofs.Common.{◌≡◌, ℕ, ◌+◌, ◌-◌, ◌≤◌, ◌==◌, ◌&&◌, Bool, true, false, cond, List, [], ◌∷◌, ◌++◌, length, drop, map, All, Option, Some, None, refl, ap, ◌∙◌, arith, rules, get_or-drop, add-zero, nat_le, not, ◌/◌, ◌%◌}
+use Rattle.std.proofs.Common.{◌≡◌, ℕ, ◌+◌, ◌-◌, ◌==◌, ◌&&◌, Bool, true, false, cond, List, [], ◌∷◌, ◌++◌, map, All, Option, Some, None, refl, ap, ◌∙◌, arith, get_or-drop, add-zero, nat_le, not, ◌/◌, ◌%◌}
 use Rattle.std.proofs.lemmas.Bool.Decides.{nat_tests}
-use Rattle.std.proofs.lemmas.Grind.{common_steps}
 use Rattle.std.proofs.lemmas.List.Elements.{All-head, All-tail}
-use Rattle.std.specs.Prelude.{find, option_map, slice_index}
+use Rattle.std.specs.Prelude.{find, option_map}
 use Rattle.elf_mips.specs.declared.segment.Segment.{Segment}
 use Rattle.elf_mips.specs.Fields.{number_at}
-use Rattle.elf_mips.specs.Segments.{IsFilled, holds, is_code} 
+use Rattle.elf_mips.specs.Segments.{IsFilled, holds, is_code}
 use Rattle.elf_mips.specs.Segments.{code_at as image_code}
-use Rattle.mips_decode.specs.State.{Region, code_at, covers, holds_code, is_executable, is_writable, word_at}
+use Rattle.mips_decode.specs.State.{Region, code_at, covers, holds_code, is_writable, word_at}
 use Rattle.mips_decode.specs.Start.{AreRegionsAtStart, IsRegionAtStart}
 use Rattle.cache_config.specs.declared.profile.Profile.{Profile}
 use Rattle.cache_config.specs.declared.profile.Region.{Region as Area}
@@ -33,7 +32,7 @@ pub holds_code-region_of : (address : ℕ) (segment : Segment) → IsFilled segm
     holds_code address (region_of segment) ≡ (holds 4 address segment && is_code segment)
 holds_code-region_of address segment filled =
     rw (filled.sized, not_one (segment.flags / 2)) (and_assoc (nat_le segment.address address) (nat_le (address + 4) (segment.address + segment.size))
-            (segment.flags % 2 == 1) (segment.flags / 2 % 2 == 0))
+    (segment.flags % 2 == 1) (segment.flags / 2 % 2 == 0))
 
 -- The executable words of an image's segments are those of its regions.
 pub find-regions_of : (address : ℕ) (segments : List Segment) → All IsFilled segments →
@@ -42,11 +41,12 @@ pub find-regions_of : (address : ℕ) (segments : List Segment) → All IsFilled
 find-regions_of address [] filled = refl
 find-regions_of address (segment ∷ more) filled =
     rw (holds_code-region_of address segment (All-head IsFilled segment more filled))
-        (elim (holds 4 address segment && is_code segment) as (λ b.
-            option_map (λ (r : Region). word_at (address - r.start) r.bytes) (cond b (Some (region_of segment)) (find (holds_code address) (map region_of more)))
-            ≡ option_map (λ (s : Segment). number_at 4 (address - s.address) s.bytes) (cond b (Some segment) (find (λ s. holds 4 address s && is_code s) more)))
-        [ true ↦ ap Some (word_at-number_at (address - segment.address) segment.bytes)
-        | false ↦ find-regions_of address more (All-tail IsFilled segment more filled) ])
+    (elim (holds 4 address segment && is_code segment) as (λ b.
+    option_map (λ (r : Region). word_at (address - r.start) r.bytes) (cond b (Some (region_of segment)) (find (holds_code address) (map region_of more)))
+    ≡ option_map (λ (s : Segment). number_at 4 (address - s.address) s.bytes) (cond b (Some segment) (find (λ s. holds 4 address s && is_code s) more))) [
+      | true ↦ ap Some (word_at-number_at (address - segment.address) segment.bytes)
+      | false ↦ find-regions_of address more (All-tail IsFilled segment more filled)
+    ])
 
 -- Regions without code behind others change no search.
 front_by_head : (b : Bool) (region : Region) (left right : Option Region) → left ≡ right →
@@ -76,10 +76,10 @@ pub code_at-regions_of : (address : ℕ) (image : Image) (profile : Profile) →
 code_at-regions_of address image profile filled =
     let stack = stack_of profile in
     let none : find (holds_code address) (stack ∷ map area_of profile.regions) ≡ None =
-        rw (zeros_no_code address (profile.stack_top - profile.stack_size) (profile.stack_size + 64))
-            (areas_no_code address profile.regions) in
+    rw (zeros_no_code address (profile.stack_top - profile.stack_size) (profile.stack_size + 64))
+    (areas_no_code address profile.regions) in
     ap (λ (region : Option Region). cond (address % 4 == 0) (option_map (λ (r : Region). word_at (address - r.start) r.bytes) region) None)
-        (find-front address (map region_of image.segments) (stack ∷ map area_of profile.regions) none)
+    (find-front address (map region_of image.segments) (stack ∷ map area_of profile.regions) none)
     ∙ ap (λ (word : Option ℕ). cond (address % 4 == 0) word None) (find-regions_of address image.segments filled)
 
 -- A region that can be executed and can't be written has its given bytes at a start.
@@ -91,20 +91,20 @@ last_false a false h = refl
 record SameWords (address : ℕ) (given region : Region) : Type 0 where
   holds : holds_code address region ≡ holds_code address given
   word : holds_code address given ≡ true →
-    word_at (address - region.start) region.bytes ≡ word_at (address - given.start) given.bytes
+      word_at (address - region.start) region.bytes ≡ word_at (address - given.start) given.bytes
 
 same_words : (address : ℕ) (given region : Region) → IsRegionAtStart given region → SameWords address given region
 same_words address given region start = record {
   holds = rw (start.start, start.flags, start.size) refl;
-  word = λ held. rw (start.start, start.kept (last_false _ (is_writable given) held)) refl
+  word = λ held. rw (start.start, start.kept (last_false _ (is_writable given) held)) refl;
 }
 
 word_of_found : (address : ℕ) (b : Bool) (given region : Region) (left right : Option Region) →
     (b ≡ true → word_at (address - region.start) region.bytes ≡ word_at (address - given.start) given.bytes) →
     option_map (λ (r : Region). word_at (address - r.start) r.bytes) left
-        ≡ option_map (λ (r : Region). word_at (address - r.start) r.bytes) right →
+    ≡ option_map (λ (r : Region). word_at (address - r.start) r.bytes) right →
     option_map (λ (r : Region). word_at (address - r.start) r.bytes) (cond b (Some region) left)
-        ≡ option_map (λ (r : Region). word_at (address - r.start) r.bytes) (cond b (Some given) right)
+    ≡ option_map (λ (r : Region). word_at (address - r.start) r.bytes) (cond b (Some given) right)
 word_of_found address true given region left right same rest = ap Some (same refl)
 word_of_found address false given region left right same rest = rest
 
@@ -117,8 +117,8 @@ find-at_start address (given ∷ more) [] start = absurd start
 find-at_start address (given ∷ more) (region ∷ regions) start =
     let same = same_words address given region start.0 in
     rw same.holds
-        (word_of_found address (holds_code address given) given region _ _ same.word
-            (find-at_start address more regions start.1))
+    (word_of_found address (holds_code address given) given region _ _ same.word
+    (find-at_start address more regions start.1))
 
 -- The executable words of a start are those of the given regions.
 pub code_at-start : (given regions : List Region) → AreRegionsAtStart given regions → (address : ℕ) →

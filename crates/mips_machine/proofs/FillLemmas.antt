@@ -1,11 +1,11 @@
 -- Fills put bytes into regions that can be written, and leave a start.
-use Rattle.std.proofs.Common.{◌≡◌, ℕ, ◌+◌, ◌-◌, ◌<◌, ◌≤◌, nat_le, Bool, true, false, not, cond, zero, suc, List, [], ◌∷◌, ◌++◌, length, take, drop, get_or, set, map, All, Option, Some, None, refl, sym, ap, subst, ◌∙◌, arith, length-append, length-drop}
+use Rattle.std.proofs.Common.{◌≡◌, ℕ, ◌+◌, ◌-◌, ◌<◌, ◌≤◌, nat_le, Bool, true, false, cond, zero, suc, List, [], ◌∷◌, ◌++◌, length, take, drop, get_or, set, All, Option, Some, None, refl, sym, ap, ◌∙◌, arith, length-append, length-drop}
 use Rattle.std.proofs.lemmas.Bool.{and_parts}
 use Rattle.std.proofs.lemmas.Bool.Decides.{nat_tests}
 use Rattle.std.proofs.lemmas.List.{length-take}
-use Rattle.std.proofs.lemmas.List.Elements.{All-append, All-head, All-tail, All-take, All-drop}
+use Rattle.std.proofs.lemmas.List.Elements.{All-append, All-take, All-drop}
 use Rattle.std.proofs.lemmas.List.Sums.{fold-append}
-use Rattle.std.specs.Prelude.{find, fold, option_map}
+use Rattle.std.specs.Prelude.{find, option_map}
 use Rattle.mips_decode.specs.State.{Region, covers, is_writable}
 use Rattle.mips_decode.specs.Start.{AreRegionsAtStart, IsRegionAtStart}
 use Rattle.mips_machine.specs.declared.fill.Fill.{Fill}
@@ -18,7 +18,7 @@ pub has_place : (fill : Fill) (regions : List Region) → IsFillable regions fil
     All (λ region. covers fill.address (length fill.bytes) region ≡ false) regions → ⊥
 has_place fill regions fits fails =
     let none : find (covers fill.address (length fill.bytes)) regions ≡ None =
-        find-fails (covers fill.address (length fill.bytes)) regions fails in
+    find-fails (covers fill.address (length fill.bytes)) regions fails in
     cc
 
 -- A fill changes the region at its place.
@@ -29,9 +29,9 @@ with_fill-StandsAt fill [] place other at = absurd (omega (arith, at.inside))
 with_fill-StandsAt fill (region ∷ regions) zero other at = rw (at.passes other) refl
 with_fill-StandsAt fill (region ∷ regions) (suc place) other at =
     rw (at.before 0 other (omega arith))
-        (ap (λ (rest : List Region). region ∷ rest)
-            (with_fill-StandsAt fill regions place other
-                (StandsAt-behind (covers fill.address (length fill.bytes)) region regions place at)))
+    (ap (λ (rest : List Region). region ∷ rest)
+    (with_fill-StandsAt fill regions place other
+    (StandsAt-behind (covers fill.address (length fill.bytes)) region regions place at)))
 
 -- A region at a start covers what the given one covers.
 covers-at_start : (address size : ℕ) (given region : Region) → IsRegionAtStart given region →
@@ -54,8 +54,8 @@ IsFillable-at_start fill [] (region ∷ regions) start fits = absurd start
 IsFillable-at_start fill (given ∷ more) [] start fits = absurd start
 IsFillable-at_start fill (given ∷ more) (region ∷ regions) start fits =
     rw (covers-at_start fill.address (length fill.bytes) given region start.0)
-        (fits_by_head (covers fill.address (length fill.bytes) given) given region _ _ (rw start.0.flags refl)
-            (IsFillable-at_start fill more regions start.1) fits)
+    (fits_by_head (covers fill.address (length fill.bytes) given) given region _ _ (rw start.0.flags refl)
+    (IsFillable-at_start fill more regions start.1) fits)
 
 -- The bytes of an access lie in the region that covers it.
 covers-inside : (address size : ℕ) (region : Region) → covers address size region ≡ true →
@@ -75,8 +75,8 @@ AreBytes bytes = All (λ byte. byte < 256) bytes
 AreBytes-spliced : (at : ℕ) (new bytes : List ℕ) → AreBytes new → AreBytes bytes → AreBytes (spliced at new bytes)
 AreBytes-spliced at new bytes small old =
     All-append (λ byte. byte < 256) (take at bytes ++ new) (drop (at + length new) bytes)
-        (All-append (λ byte. byte < 256) (take at bytes) new (All-take (λ byte. byte < 256) at bytes old) small)
-        (All-drop (λ byte. byte < 256) (at + length new) bytes old)
+    (All-append (λ byte. byte < 256) (take at bytes) new (All-take (λ byte. byte < 256) at bytes old) small)
+    (All-drop (λ byte. byte < 256) (at + length new) bytes old)
 
 -- A region that a fill lies in stays a region at the start.
 filled-at_start : (fill : Fill) (given region : Region) → IsRegionAtStart given region → is_writable given ≡ true →
@@ -90,7 +90,7 @@ filled-at_start fill given region start writable covered small =
       flags = start.flags;
       size = length-spliced (fill.address - region.start) fill.bytes region.bytes at ∙ start.size;
       bytes = AreBytes-spliced (fill.address - region.start) fill.bytes region.bytes small start.bytes;
-      kept = λ fixed. cc
+      kept = λ fixed. cc;
     }
 
 fill_by_head : (b : Bool) (fill : Fill) (given region : Region) (more regions filled : List Region) →
@@ -122,9 +122,9 @@ with_fill-at_start fill (given ∷ more) (region ∷ regions) start fits small =
     let test = covers fill.address (length fill.bytes) in
     let same : test region ≡ test given = covers-at_start fill.address (length fill.bytes) given region start.0 in
     fill_by_head (test region) fill given region more regions (with_fill fill regions) refl start.0 start.1
-        (λ fails. with_fill-at_start fill more regions start.1
-            (fits-tail (test given) given (find test more) fits (sym same ∙ fails)) small)
-        (λ holds. fits-head (test given) given (find test more) fits (sym same ∙ holds)) small
+    (λ fails. with_fill-at_start fill more regions start.1
+    (fits-tail (test given) given (find test more) fits (sym same ∙ fails)) small)
+    (λ holds. fits-head (test given) given (find test more) fits (sym same ∙ holds)) small
 
 -- The fills so far are put in, and leave a start.
 pub record FillsSoFar (given memory : List Region) (fills : List Fill) : Type 0 where
@@ -136,5 +136,5 @@ pub FillsSoFar-more : (given memory after : List Region) (fills : List Fill) (fi
 FillsSoFar-more given memory after fills fill so_far fits small same = record {
   value = same ∙ ap (λ (regions : List Region). with_fill fill regions) so_far.value
       ∙ sym (fold-append (λ (regions : List Region) (next : Fill). with_fill next regions) given fills (fill ∷ []));
-  start = rw same (with_fill-at_start fill given memory so_far.start fits small)
+  start = rw same (with_fill-at_start fill given memory so_far.start fits small);
 }

@@ -1,5 +1,5 @@
 -- No unit changes the executable words.
-use Rattle.std.proofs.Common.{◌≡◌, ℕ, ◌+◌, ◌-◌, ◌%◌, ◌==◌, ◌&&◌, Bool, true, false, cond, List, [], ◌∷◌, Option, Some, None, is_some, refl, sym, ap, ◌∙◌, subst}
+use Rattle.std.proofs.Common.{◌≡◌, ℕ, ◌+◌, ◌-◌, ◌%◌, ◌==◌, ◌&&◌, Bool, true, false, cond, List, [], ◌∷◌, Option, Some, None, is_some, refl, sym, ap, ◌∙◌}
 use Rattle.std.specs.Prelude.{find, option_map}
 use Rattle.mips_decode.specs.declared.instr.Instr.{Instr}
 use Rattle.mips_decode.specs.declared.step.Regs.{Regs}
@@ -13,7 +13,7 @@ use Rattle.mips_decode.specs.Memory.{load_touched, store_touched}
 use Rattle.mips_decode.specs.State.{Region, State, code_at, covers, holds_code, is_executable, is_writable, return_address, word_at}
 use Rattle.mips_decode.specs.Effect.{Effect, Does, Traps, address_of, arithmetic, effect, load_in, on_registers, region_of, region_with, regions_with, store_in}
 use Rattle.mips_decode.specs.Transfer.{Decided, decided}
-use Rattle.mips_decode.specs.Step.{Done, Stepped, Went, Returned, Trapped, Fetched, Found, Missing, fetched, ended, plain_done, slot_done, slot_fetched, unit_of, unit_fetched, value_step}
+use Rattle.mips_decode.specs.Step.{Done, Stepped, Went, Returned, Trapped, Fetched, Found, Missing, fetched, plain_done, slot_done, slot_fetched, unit_of, unit_fetched, value_step}
 use Rattle.mips_decode.specs.Run.{Joins}
 
 -- The executable words of two states are the same.
@@ -79,8 +79,8 @@ code_in-put access number address [] found = refl
 code_in-put access number address (region ∷ regions) found =
     let test = covers access.address access.size in
     put_by_head (test region) access number address region regions (regions_with access number regions)
-        (found-head (test region) region (find test regions) found)
-        (λ fails. code_in-put access number address regions (found-tail (test region) region (find test regions) found fails))
+    (found-head (test region) region (find test regions) found)
+    (λ fails. code_in-put access number address regions (found-tail (test region) region (find test regions) found fails))
 
 load_in-code : (s : State) (op : LoadOp) (rt address : ℕ) (region : Option Region) → KeepsCode s (load_in s op rt address region)
 load_in-code s op rt address None = tt
@@ -91,7 +91,7 @@ store_by-code : (b : Bool) (s : State) (access : Touched) (number : ℕ) (region
     KeepsCode s (cond b (Does (Some access) (record s { regions = regions_with access number s.regions })) (Traps ReadOnly))
 store_by-code true s access number region found writable = λ address.
     let fits : option_map is_writable (region_of access s.regions) ≡ Some true =
-        ap (option_map is_writable) found ∙ ap Some writable in
+    ap (option_map is_writable) found ∙ ap Some writable in
     ap (λ (word : Option ℕ). cond (address % 4 == 0) word None) (code_in-put access number address s.regions fits)
 store_by-code false s access number region found writable = tt
 
@@ -155,8 +155,8 @@ slot_fetched-code : (s : State) (instr : Instr) (way : Decided) (slot : Fetched)
 slot_fetched-code s instr way (Missing kind) next later joins = absurd joins
 slot_fetched-code s instr way (Found slot) next later joins =
     slot_by-code (is_some (decided slot (s.pc + 4) s.regs)) (Trapped Unknown (s.pc + 4)) s instr way slot
-        (effect slot (record s { regs = way.regs })) next later (λ h. h)
-        (effect-code slot (record s { regs = way.regs })) joins
+    (effect slot (record s { regs = way.regs })) next later (λ h. h)
+    (effect-code slot (record s { regs = way.regs })) joins
 
 unit_of-code : (code : ℕ → Option ℕ) (s : State) (instr : Instr) (way : Option Decided) (next : State) (later : List State) →
     Joins (unit_of code s instr way) next later → SameCode s next

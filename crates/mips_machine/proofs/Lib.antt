@@ -1,4 +1,5 @@
 -- The lemmas of this crate.
+pub mod ClashLemmas
 pub mod PlaceLemmas
 pub mod AccessLemmas
 pub mod EffectLemmas

@@ -1,5 +1,5 @@
 -- The regions of an image and a profile are regions at the start.
-use Rattle.std.proofs.Common.{ℕ, ◌<◌, List, [], ◌∷◌, ◌++◌, All, map, replicate, refl, arith}
+use Rattle.std.proofs.Common.{ℕ, ◌<◌, List, [], ◌∷◌, ◌++◌, All, map, refl, arith}
 use Rattle.std.proofs.lemmas.List.Elements.{All-head, All-replicate, All-tail}
 use Rattle.cache_config.specs.declared.profile.Profile.{Profile}
 use Rattle.cache_config.specs.declared.profile.Region.{Region as Area}
@@ -21,9 +21,10 @@ zeros-at_start start size =
 segments-at_start : (segments : List Segment) → All HasBytes segments →
     AreRegionsAtStart (map region_of segments) (map region_of segments)
 segments-at_start [] bytes = tt
-segments-at_start (segment ∷ more) bytes =
-    (same-at_start (region_of segment) (All-head HasBytes segment more bytes),
-     segments-at_start more (All-tail HasBytes segment more bytes))
+segments-at_start (segment ∷ more) bytes = (
+  same-at_start (region_of segment) (All-head HasBytes segment more bytes),
+  segments-at_start more (All-tail HasBytes segment more bytes),
+)
 
 areas-at_start : (areas : List Area) → AreRegionsAtStart (map area_of areas) (map area_of areas)
 areas-at_start [] = tt
@@ -41,6 +42,6 @@ pub regions_of-at_start : (image : Image) (profile : Profile) → All HasBytes i
     AreRegionsAtStart (regions_of image profile) (regions_of image profile)
 regions_of-at_start image profile bytes =
     append-at_start (map region_of image.segments) (map region_of image.segments)
-        (stack_of profile ∷ map area_of profile.regions) (stack_of profile ∷ map area_of profile.regions)
-        (segments-at_start image.segments bytes)
-        (zeros-at_start _ _, areas-at_start profile.regions)
+    (stack_of profile ∷ map area_of profile.regions) (stack_of profile ∷ map area_of profile.regions)
+    (segments-at_start image.segments bytes)
+    (zeros-at_start _ _, areas-at_start profile.regions)

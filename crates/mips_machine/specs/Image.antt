@@ -82,7 +82,11 @@ IsFillable regions fill =
 abbrev pub AreApart : Region → Region → Type 0
 AreApart r s = AreSpansApart r.start (length r.bytes) s.start (length s.bytes)
 
+-- The segment overlaps neither the stack nor a region of the profile.
+abbrev pub IsOff : Profile → Segment → Type 0
+IsOff profile segment =
+    All (AreApart (region_of segment)) (stack_of profile ∷ map area_of profile.regions)
+
 -- No loaded segment overlaps the stack or a region of the profile.
 abbrev pub HasNoClash : Image → Profile → Type 0
-HasNoClash image profile =
-    All (λ segment. All (AreApart (region_of segment)) (stack_of profile ∷ map area_of profile.regions)) image.segments
+HasNoClash image profile = All (IsOff profile) image.segments

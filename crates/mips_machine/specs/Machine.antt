@@ -1,5 +1,5 @@
 -- The machine: the values of a program with the cycles that it has taken, and the step of one unit.
-use Rattle.std.specs.Prelude.{◌≡◌, ℕ, ◌+◌, ◌==◌, List, [], sum_by, None, Some, Option, if◌then◌else◌}
+use Rattle.std.specs.Prelude.{◌≡◌, ℕ, ◌+◌, ◌==◌, List, sum_by, None, Some, Option, if◌then◌else◌}
 use Rattle.cache_config.specs.declared.profile.Cycles.{Cycles}
 use Rattle.cache_config.specs.declared.profile.Profile.{Profile}
 use Rattle.elf_mips.specs.declared.image.Image.{Image}
@@ -72,10 +72,14 @@ done_by m done s =
 -- The machine after a unit that goes on to an address, with its cycles and its load or store.
 abbrev pub moved : Machine → (next cycles : ℕ) → Option Touched → After
 moved m next cycles access =
-    record { outcome = (if next == return_address then HasEnded else Going)
-           ; machine = record m { values = record m.values { pc = next }
-                                ; cycles = m.cycles + (cycles + access_cost m.costs access)
-                                ; last = access } }
+    record {
+      outcome = (if next == return_address then HasEnded else Going);
+      machine = record m {
+        values = record m.values { pc = next };
+        cycles = m.cycles + (cycles + access_cost m.costs access);
+        last = access;
+      };
+    }
 
 -- A trap changes nothing.
 abbrev pub after : Machine → Stepped → After
@@ -100,8 +104,9 @@ machine_at_start image profile entry regs fills = record {
   values = record {
     regs = registers_at_start profile regs;
     pc = entry;
-    regions = with_fills fills (regions_of image profile) };
+    regions = with_fills fills (regions_of image profile);
+  };
   cycles = 0;
   last = None;
-  costs = costs_of profile
+  costs = costs_of profile;
 }

@@ -1,17 +1,19 @@
 //! The machine: it runs a program's units one after the other and counts their cycles.
 #![tactic(auto)]
 
+mod clash;
 mod cost;
 mod fill;
-
 mod machine;
 mod memory;
 mod outcome;
 mod region;
+#[cfg(test)]
+mod tests;
 mod unit;
 
+pub use clash::has_clash;
 pub use fill::Fill;
-
 pub use machine::Machine;
 pub use mips_decode::{Regs, Touched, TrapKind};
 pub use outcome::Outcome;

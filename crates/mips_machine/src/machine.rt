@@ -40,8 +40,11 @@ impl Model for Machine {
     ghost Value = { Machine };
 
     ghost view = { λ m. record {
-        values = record { regs = m.regs; pc = m.pc; regions = m.memory };
-        cycles = m.cycles; last = m.last; costs = m.costs } };
+      values = record { regs = m.regs; pc = m.pc; regions = m.memory };
+      cycles = m.cycles;
+      last = m.last;
+      costs = m.costs;
+    } };
 }
 
 /// Sets registers 0, 28, 29 and 31 as a start has them.
@@ -150,14 +153,23 @@ impl Machine {
         };
         let slot = match fetch(&self.memory, pc + 4) {
             Ok(slot) => slot,
-            Err(kind) => return Outcome::Trap { kind, address: pc + 4 },
+            Err(kind) => return Outcome::Trap {
+                kind,
+                address: pc + 4,
+            },
         };
         if mips_decode::is_transfer(&slot) {
-            return Outcome::Trap { kind: TrapKind::Unknown, address: pc + 4 };
+            return Outcome::Trap {
+                kind: TrapKind::Unknown,
+                address: pc + 4,
+            };
         }
         let access = match execute(&slot, &mut regs, &mut self.memory) {
             Ok(access) => access,
-            Err(kind) => return Outcome::Trap { kind, address: pc + 4 },
+            Err(kind) => return Outcome::Trap {
+                kind,
+                address: pc + 4,
+            },
         };
         self.regs = regs;
         let cycles = self.costs.instruction(&instr) + self.costs.instruction(&slot);

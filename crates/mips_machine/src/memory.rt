@@ -165,7 +165,10 @@ impl Memory {
             return Err(TrapKind::ReadOnly);
         }
         let old = region.number(&access);
-        region.put(&access, mips_decode::store_value(op, address % 4, old, number));
+        region.put(
+            &access,
+            mips_decode::store_value(op, address % 4, old, number),
+        );
         Ok(access)
     }
 }

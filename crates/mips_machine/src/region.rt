@@ -10,8 +10,7 @@ ghost use Rattle.mips_machine.specs.Image.{HasBytes, filled_region, region_of, s
 use crate::fill::Fill;
 use elf_mips::Segment;
 use mips_decode::Touched;
-use std::alloc::AllocError;
-use std::alloc::Global;
+use std::alloc::{AllocError, Global};
 use std::marker::Model;
 
 /// A stretch of memory with its flags (1 executable, 2 writable).

@@ -116,8 +116,18 @@ pub fn execute(
     ensures kept_memory { OnErr result (memory.new ≡ memory.old) }
 {
     match *instr {
-        Instr::Load { op, rt, base, offset } => load(op, rt, base, offset, regs, memory),
-        Instr::Store { op, rt, base, offset } => store(op, rt, base, offset, regs, memory),
+        Instr::Load {
+            op,
+            rt,
+            base,
+            offset,
+        } => load(op, rt, base, offset, regs, memory),
+        Instr::Store {
+            op,
+            rt,
+            base,
+            offset,
+        } => store(op, rt, base, offset, regs, memory),
         Instr::Stop { op, .. } => Err(stop_kind(op)),
         _ => arithmetic(instr, regs),
     }

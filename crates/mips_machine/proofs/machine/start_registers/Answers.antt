@@ -13,5 +13,5 @@ returns-clause-start c = λ entry.
       zero = set.zero;
       stack = set.stack;
       link = set.link;
-      pointer = set.pointer
+      pointer = set.pointer;
     }

@@ -8,9 +8,9 @@ returns-clause-start c =
       values = record {
         pc = refl;
         registers = c.start_registers.ensures.start c.args.entry;
-        memory = c.in_ok-memory.ensures.start
+        memory = c.in_ok-memory.ensures.start;
       };
       cycles = refl;
       last = refl;
-      costs = c.of_profile.ensures
+      costs = c.of_profile.ensures;
     }

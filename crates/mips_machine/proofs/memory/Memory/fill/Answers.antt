@@ -1,7 +1,6 @@
 -- A fill that fits has a place, and changes the region there.
 use Rattle.std.proofs.Common.{ap, set, sym, ◌∙◌}
-use Rattle.mips_decode.specs.State.{Region}
-use Rattle.mips_machine.specs.Image.{IsFillable, filled_region}
+use Rattle.mips_machine.specs.Image.{filled_region}
 use Rattle.mips_machine.proofs.FillLemmas.{has_place, with_fill-StandsAt}
 use Rattle.mips_machine.proofs.memory.Memory.fill.Goals as goal
 
