@@ -123,26 +123,46 @@ fn prints_bounds_and_unbuilt_forms(rt: HostRuntime) -> Result<(), Fail> {
     Ok(())
 }
 
+/// Puts bytes over those from a place on, as far as they reach.
+fn put(file: &mut [u8], place: usize, bytes: &[u8]) {
+    if place > file.len() {
+        return;
+    }
+    for (old, new) in file[place..].iter_mut().zip(bytes) {
+        *old = *new;
+    }
+}
+
 #[test]
 fn prints_the_first_fault(rt: HostRuntime) -> Result<(), Fail> {
     let alloc = rt.alloc();
     let file = file_of(alloc, &[0x03E0_0008, 0])?;
     assert_eq!(rt; file.len(), 92);
-    // The same file with one byte changed: where, to what, and the line.
-    let rows: [(usize, u8, &str); 6] = [
-        (0, 0, "refused not-elf 00000000\n"),
-        (5, 1, "refused not-this-kind 00000005\n"),
-        (0x2B, 31, "refused bad-table 0000002A\n"),
-        (0x30, 1, "refused bad-table 00000020\n"),
-        (0x31, 1, "refused unbuilt 00000000\n"),
-        (0x47, 9, "refused bad-segment 00000034\n"),
+    // The same file with some bytes changed: from where on, to what, and the line.
+    let rows: [(usize, &[u8], &str); 11] = [
+        (0, &[0], "refused not-elf 00000000\n"),
+        (5, &[1], "refused not-this-kind 00000005\n"),
+        (0x23, &[1], "refused bad-table 00000030\n"),
+        (0x2B, &[31], "refused bad-table 0000002A\n"),
+        (0x2C, &[0xFF, 0xFF], "refused bad-table 0000001C\n"),
+        (0x30, &[1], "refused bad-table 00000020\n"),
+        (0x31, &[1], "refused unbuilt 00000000\n"),
+        (
+            0x38,
+            &[0xFF, 0xFF, 0xFF, 0xFF],
+            "refused bad-segment 00000034\n",
+        ),
+        (
+            0x3C,
+            &[0xFF, 0xFF, 0xFF, 0xF0],
+            "refused bad-segment 00000034\n",
+        ),
+        (0x47, &[9], "refused bad-segment 00000034\n"),
+        (0x4B, &[0], "refused unbuilt 00000000\n"),
     ];
-    for (place, byte, line) in rows {
+    for (place, bytes, line) in rows {
         let mut changed = file.as_slice().to_vec(alloc)?;
-        if place >= changed.len() {
-            return Ok(());
-        }
-        changed[place] = byte;
+        put(&mut changed, place, bytes);
         let got = analysed(alloc, &changed)?;
         assert_eq!(rt; got.0, Status::Refused);
         assert_eq!(rt; got.1.as_slice(), line.as_bytes());
