@@ -10,7 +10,9 @@ use Rattle.mips_decode.specs.State.{Region, covers, is_writable}
 use Rattle.mips_decode.specs.Start.{AreRegionsAtStart, IsRegionAtStart}
 use Rattle.mips_machine.specs.declared.fill.Fill.{Fill}
 use Rattle.mips_machine.specs.Image.{IsFillable, filled_region, spliced, with_fill, with_fills}
+use Rattle.mips_machine.specs.Index.{span_of}
 use Rattle.mips_machine.specs.Places.{StandsAt}
+use Rattle.mips_machine.proofs.SpanLemmas.{spanning}
 use Rattle.mips_machine.proofs.PlaceLemmas.{StandsAt-behind, find-fails}
 
 -- A fill that fits has a place.
@@ -68,6 +70,14 @@ covers-inside address size region covered =
 length-spliced : (at : ℕ) (new bytes : List ℕ) → at + length new ≤ length bytes →
     length (spliced at new bytes) ≡ length bytes
 length-spliced at new bytes inside = simp (length-append, length-take, length-drop) (omega arith)
+
+-- A fill that lies in a region leaves its addresses.
+pub span_of-filled : (fill : Fill) (region : Region) → covers fill.address (length fill.bytes) region ≡ true →
+    span_of (filled_region fill region) ≡ span_of region
+span_of-filled fill region covered =
+    let inside = covers-inside fill.address (length fill.bytes) region covered in
+    ap (λ (size : ℕ). spanning region.start size)
+    (length-spliced (fill.address - region.start) fill.bytes region.bytes (omega (arith, inside.0, inside.1)))
 
 abbrev AreBytes : List ℕ → Type 0
 AreBytes bytes = All (λ byte. byte < 256) bytes

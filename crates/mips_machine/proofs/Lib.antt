@@ -1,6 +1,9 @@
 -- The lemmas of this crate.
 pub mod ClashLemmas
 pub mod PlaceLemmas
+pub mod IndexLemmas
+pub mod ApartLemmas
+pub mod SpanLemmas
 pub mod AccessLemmas
 pub mod EffectLemmas
 pub mod FillLemmas

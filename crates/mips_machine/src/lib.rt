@@ -4,6 +4,7 @@
 mod clash;
 mod cost;
 mod fill;
+mod index;
 mod machine;
 mod memory;
 mod outcome;

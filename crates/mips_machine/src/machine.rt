@@ -83,7 +83,8 @@ fn start_memory(
     profile: &Profile,
     fills: &[Fill],
 ) -> Result<Memory, AllocError>
-    requires { All (IsFillable (regions_of image.now profile.now)) fills.now }
+    requires apart { HasNoClash image.now profile.now }
+    requires fills { All (IsFillable (regions_of image.now profile.now)) fills.now }
     ensures filled { IfOk result
         (λ m. m ≡ with_fills fills.now (regions_of image.now profile.now)) }
     ensures start { IfOk result (AreRegionsAtStart (regions_of image.now profile.now)) }
@@ -131,8 +132,8 @@ impl Machine {
 
     /// Does one unit: a plain instruction, or a jump or branch with its delay slot (MIPS I architecture).
     ///
-    /// A unit that traps changes nothing. No memory is taken. A load or store searches for its region
-    /// and touches only its own bytes.
+    /// A unit that traps changes nothing. No memory is taken. A fetch, a load and a store search for
+    /// their region by bisection (`Memory::place_at`) and touch only its own bytes.
     pub fn step(&mut self) -> Outcome
         requires { self.old.cycles < 2 ^ 62 }
         ensures { record { outcome = result; machine = self.new } ≡ whole_step self.old }

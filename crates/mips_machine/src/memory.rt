@@ -6,10 +6,11 @@ ghost use Rattle.mips_decode.specs.State.{Region, State};
 ghost use Rattle.mips_decode.specs.Effect.{Does, Traps, loaded, reg, stored, with_reg};
 ghost use Rattle.mips_decode.specs.Memory.{IsSize};
 ghost use Rattle.mips_decode.specs.Start.{AreRegionsAtStart};
-ghost use Rattle.mips_machine.specs.Image.{HasBytes, IsFillable, area_of, region_of, regions_of, stack_of, with_fill};
-ghost use Rattle.mips_machine.specs.Places.{StandsAt};
+ghost use Rattle.mips_machine.specs.Image.{HasBytes, HasNoClash, IsFillable, area_of, region_of, regions_of, stack_of, with_fill};
+ghost use Rattle.mips_machine.specs.Places.{IsOnlyPlace, StandsAt};
 
 use crate::fill::Fill;
+use crate::index::{Start, index_of, last_start};
 use crate::region::Region;
 use cache_config::Profile;
 use elf_mips::Image;
@@ -18,22 +19,30 @@ use std::alloc::{AllocError, Global};
 use std::marker::Model;
 
 /// The regions of memory, which lie apart.
+///
+/// A fetch, a load and a store find their region by bisection of the index, in `place_at`, and touch
+/// only its own bytes.
 #[derive(Debug, Drop)]
 pub struct Memory {
     regions: Vec<Region>,
+    /// Where each region begins, by rising addresses.
+    by_address: Vec<Start>,
 }
 
 impl Model for Memory {
     ghost use Rattle.std.specs.Prelude.{List};
     ghost use Rattle.mips_decode.specs.State.{Region};
+    ghost use Rattle.mips_machine.specs.Index.{IsIndexed, spans_of};
 
     ghost Value = { List Region };
 
     ghost view = { λ m. m.regions.items };
+
+    ghost invariant = { λ m. IsIndexed (spans_of m.regions.items) m.by_address.items };
 }
 
-/// The place of the region that holds all bytes of an access.
-fn place_of(regions: &[Region], address: u32, size: u64) -> Option<usize>
+/// The place of the first region that holds all bytes from an address up to a size.
+fn first_place(regions: &[Region], address: u32, size: u64) -> Option<usize>
     requires { size < 2 ^ 63 }
     ensures place { IfSome result (StandsAt (covers address size) regions.now) }
     ensures none { IfNone result (All (λ region. covers address size region ≡ false) regions.now) }
@@ -44,15 +53,6 @@ fn place_of(regions: &[Region], address: u32, size: u64) -> Option<usize>
         }
     }
     None
-}
-
-/// The place of the region that holds all bytes of a load or store.
-fn place_of_access(regions: &[Region], access: &Touched) -> Option<usize>
-    ensures place { IfSome result (StandsAt (covers access.now.address access.now.size) regions.now) }
-    ensures none { IfNone result
-        (All (λ region. covers access.now.address access.now.size region ≡ false) regions.now) }
-{
-    place_of(regions, access.address, u64::from(access.size))
 }
 
 /// The regions of an image's loaded segments, in order, each with a copy of its bytes.
@@ -68,36 +68,64 @@ fn segment_regions(alloc: Global, image: &Image) -> Result<Vec<Region>, AllocErr
     Ok(regions)
 }
 
-/// The executable word at an address; none where there is no such word.
-fn code_word(regions: &[Region], address: u32) -> Option<u32>
-    ensures word { result ≡ code_at regions.now address }
-    ensures low { OnSome result (address + 4 ≤ return_address) }
+/// The regions of an image and a profile: the loaded segments, the stack and the profile's regions.
+fn start_regions(alloc: Global, image: &Image, profile: &Profile) -> Result<Vec<Region>, AllocError>
+    ensures regions { IfOk result (λ r. r.items ≡ regions_of image.now profile.now) }
+    ensures start { OnOk result (AreRegionsAtStart
+        (regions_of image.now profile.now) (regions_of image.now profile.now)) }
 {
-    if !(address % 4 == 0) {
-        return None;
+    let mut regions = segment_regions(alloc, image)?;
+    let stack = profile.stack_top - profile.stack_size;
+    regions.push(Region::zeros(alloc, stack, profile.stack_size + 64)?)?;
+    for area in profile.regions.as_slice() {
+        regions.push(Region::zeros(alloc, area.start, area.size)?)?;
     }
-    for region in regions {
-        if region.has_code(address) {
-            return Some(region.word(address));
-        }
-    }
-    None
+    Ok(regions)
 }
 
 impl Memory {
     /// The memory of an image and a profile: the loaded segments, the stack and the profile's regions.
     pub fn of_image(alloc: Global, image: &Image, profile: &Profile) -> Result<Memory, AllocError>
+        requires { HasNoClash image.now profile.now }
         ensures regions { IfOk result (λ m. m ≡ regions_of image.now profile.now) }
         ensures start { OnOk result (AreRegionsAtStart
             (regions_of image.now profile.now) (regions_of image.now profile.now)) }
     {
-        let mut regions = segment_regions(alloc, image)?;
-        let stack = profile.stack_top - profile.stack_size;
-        regions.push(Region::zeros(alloc, stack, profile.stack_size + 64)?)?;
-        for area in profile.regions.as_slice() {
-            regions.push(Region::zeros(alloc, area.start, area.size)?)?;
+        let regions = start_regions(alloc, image, profile)?;
+        let by_address = index_of(alloc, &regions)?;
+        Ok(Memory {
+            regions,
+            by_address,
+        })
+    }
+
+    /// The place of the only region that can cover an address: the last one that begins there or
+    /// before, found by bisection.
+    fn place_at(&self, address: u32) -> Option<usize>
+        ensures only { IfSome result (IsOnlyPlace address self.now) }
+        ensures none { IfNone result (All (λ region. covers address 1 region ≡ false) self.now) }
+    {
+        match last_start(&self.by_address, address) {
+            Some(start) => Some(start.number),
+            None => None,
         }
-        Ok(Memory { regions })
+    }
+
+    /// The place of the region that holds all bytes of a load or store.
+    fn place_of(&self, access: &Touched) -> Option<usize>
+        requires { IsSize access.now.size }
+        ensures place { IfSome result
+            (StandsAt (covers access.now.address access.now.size) self.now) }
+        ensures none { IfNone result
+            (All (λ region. covers access.now.address access.now.size region ≡ false) self.now) }
+    {
+        let Some(place) = self.place_at(access.address) else {
+            return None;
+        };
+        if !self.regions[place].covers(access.address, u64::from(access.size)) {
+            return None;
+        }
+        Some(place)
     }
 
     /// Puts bytes into the region that holds them all, one that can be written.
@@ -107,7 +135,7 @@ impl Memory {
         ensures bytes { All (λ byte. byte < 256) fill.now.bytes }
     {
         let size = fill.bytes.as_slice().len() as u64;
-        let Some(place) = place_of(&self.regions, fill.address, size) else {
+        let Some(place) = first_place(&self.regions, fill.address, size) else {
             unreachable!()
         };
         let region = &mut self.regions[place];
@@ -119,7 +147,17 @@ impl Memory {
         ensures word { result ≡ code_at self.now address }
         ensures low { OnSome result (address + 4 ≤ return_address) }
     {
-        code_word(&self.regions, address)
+        if !(address % 4 == 0) {
+            return None;
+        }
+        let Some(place) = self.place_at(address) else {
+            return None;
+        };
+        let region = &self.regions[place];
+        if !region.has_code(address) {
+            return None;
+        }
+        Some(region.word(address))
     }
 
     /// The register after a load, with the access that was made, or the trap.
@@ -136,7 +174,7 @@ impl Memory {
         if access.address % access.size != 0 {
             return Err(TrapKind::Misaligned);
         }
-        let Some(place) = place_of_access(&self.regions, &access) else {
+        let Some(place) = self.place_of(&access) else {
             return Err(TrapKind::Outside);
         };
         let number = self.regions[place].number(&access);
@@ -157,7 +195,7 @@ impl Memory {
         if access.address % access.size != 0 {
             return Err(TrapKind::Misaligned);
         }
-        let Some(place) = place_of_access(&self.regions, &access) else {
+        let Some(place) = self.place_of(&access) else {
             return Err(TrapKind::Outside);
         };
         let region = &mut self.regions[place];

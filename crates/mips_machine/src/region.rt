@@ -77,6 +77,13 @@ impl Region {
         })
     }
 
+    /// The address of the first byte.
+    pub fn start(&self) -> u32
+        ensures { result ≡ self.now.start }
+    {
+        self.start
+    }
+
     /// Whether all bytes from an address up to a size lie in the region.
     pub fn covers(&self, address: u32, size: u64) -> bool
         requires { size < 2 ^ 63 }

@@ -10,7 +10,7 @@ fill-requires c =
     let given = regions_of c.args.image.now c.args.profile.now in
     let inside : c.loop-fill.fill-index < length c.args.fills.now = omega arith in
     IsFillable-at_start c.fill-item.result given c.loop-fill.memory c.loop-fill.invariant.start
-    (subst (IsFillable given) (sym c.fill-item.is) (c.requires c.loop-fill.fill-index c.fill-item.result inside))
+    (subst (IsFillable given) (sym c.fill-item.is) (c.requires.fills c.loop-fill.fill-index c.fill-item.result inside))
 
 pub loop-fill-preserved : goal.loop-fill-preserved
 loop-fill-preserved c =
@@ -19,7 +19,7 @@ loop-fill-preserved c =
     let i = c.loop-fill.fill-index in
     let fill = c.fill-item.result in
     let inside : i < length fills = omega arith in
-    let fits : IsFillable given fill = subst (IsFillable given) (sym c.fill-item.is) (c.requires i fill inside) in
+    let fits : IsFillable given fill = subst (IsFillable given) (sym c.fill-item.is) (c.requires.fills i fill inside) in
     rw (take_more fills i fill inside, ← c.fill-item.is)
     (FillsSoFar-more given c.loop-fill.memory c.fill.new.self (take i fills) fill c.loop-fill.invariant fits
     c.fill.ensures.bytes c.fill.ensures.regions)
