@@ -16,6 +16,7 @@ mod symbol;
 pub use fault::{ElfFault, ElfKind};
 pub use header::has_sections;
 pub use image::Image;
+pub use index::last_start;
 pub use mark::Mark;
 pub use reader::read_image;
 pub use segment::{Segment, Start};

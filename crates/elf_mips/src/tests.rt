@@ -173,15 +173,21 @@ fn looks_at_two_segments(rt: HostRuntime) -> Result<(), Fail> {
 
 #[test]
 fn makes_an_image_of_segments(rt: HostRuntime) -> Result<(), Fail> {
-    let bytes = List::from_vec(vec![in rt.alloc(); 1, 2, 3, 4]?);
+    let code = Segment {
+        address: 0x0040_0000,
+        size: 4,
+        flags: 5,
+        bytes: List::from_vec(vec![in rt.alloc(); 0x03, 0xE0, 0, 8]?),
+    };
     let data = Segment {
         address: 0x1000_0000,
         size: 4,
         flags: 6,
-        bytes,
+        bytes: List::from_vec(vec![in rt.alloc(); 1, 2, 3, 4]?),
     };
-    let segments = List::from_vec(vec![in rt.alloc(); data]?);
+    let segments = List::from_vec(vec![in rt.alloc(); data, code]?);
     let image = Image::from_segments(rt.alloc(), 0x0040_0000, segments)?;
+    assert_eq!(rt; image.word_at(0x0040_0000), Some(0x03E0_0008));
     assert_eq!(rt; image.word_at(0x1000_0000), None);
     assert_eq!(rt; image.byte_at(0x1000_0003), Some(4));
     Ok(())

@@ -15,7 +15,7 @@ use Rattle.std.proofs.lemmas.List.Sorted.{All-permutation, Contains-permutation}
 use Rattle.std.proofs.Math.Logic.{∥∥₁_elim}
 use Rattle.cache_config.specs.Limits.{Covers}
 use Rattle.mips_decode.specs.State.{Region, code_at, covers, holds_code, is_executable, is_writable, word_at}
-use Rattle.mips_machine.specs.declared.index.Start.{Start}
+use Rattle.elf_mips.specs.declared.segment.Start.{Start}
 use Rattle.mips_machine.specs.Index.{IsIndexed, LieApart, Span, span_of, spans_of, starts_of}
 use Rattle.mips_machine.specs.Places.{IsOnlyPlace, StandsAt}
 use Rattle.mips_machine.proofs.PlaceLemmas.{find-StandsAt, find-fails}

@@ -6,7 +6,7 @@ use Rattle.mips_decode.specs.declared.step.Touched.{Touched}
 use Rattle.mips_decode.specs.Effect.{region_with}
 use Rattle.mips_decode.specs.Memory.{with_half, with_number}
 use Rattle.mips_decode.specs.State.{Region}
-use Rattle.mips_machine.specs.declared.index.Start.{Start}
+use Rattle.elf_mips.specs.declared.segment.Start.{Start}
 use Rattle.mips_machine.specs.Index.{IsIndexed, Span, span_of, spans_of}
 
 length-with_half : (number offset : ℕ) (bytes : List ℕ) → length (with_half number offset bytes) ≡ length bytes

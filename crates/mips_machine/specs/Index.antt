@@ -4,7 +4,7 @@ use Rattle.std.specs.List.{enumerate_from}
 use Rattle.std.specs.List.Sorted.{IsPermutation, IsNonDecreasingBy}
 use Rattle.cache_config.specs.Limits.{AreApart}
 use Rattle.mips_decode.specs.State.{Region}
-use Rattle.mips_machine.specs.declared.index.Start.{Start}
+use Rattle.elf_mips.specs.declared.segment.Start.{Start}
 
 -- A span of addresses: the first one, and how many there are.
 pub record Span : Type 0 where

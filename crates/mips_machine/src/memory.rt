@@ -10,10 +10,10 @@ ghost use Rattle.mips_machine.specs.Image.{HasBytes, HasNoClash, IsFillable, are
 ghost use Rattle.mips_machine.specs.Places.{IsOnlyPlace, StandsAt};
 
 use crate::fill::Fill;
-use crate::index::{Start, index_of, last_start};
+use crate::index::index_of;
 use crate::region::Region;
 use cache_config::Profile;
-use elf_mips::Image;
+use elf_mips::{Image, Start, last_start};
 use mips_decode::{LoadOp, StoreOp, Touched, TrapKind};
 use std::alloc::{AllocError, Global};
 use std::marker::Model;

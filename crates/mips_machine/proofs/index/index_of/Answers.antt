@@ -1,7 +1,7 @@
 -- The sort leaves the starts by rising addresses.
 use Rattle.std.proofs.Common.{rules}
 use Rattle.std.proofs.lemmas.List.Sorted.{IsNonDecreasingBy-from_sort_by_key}
-use Rattle.mips_machine.specs.declared.index.Start.{Start}
+use Rattle.elf_mips.specs.declared.segment.Start.{Start}
 use Rattle.mips_machine.proofs.index.index_of.Goals as goal
 
 pub returns-clause-rising : goal.returns-clause-rising

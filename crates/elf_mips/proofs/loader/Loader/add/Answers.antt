@@ -1,6 +1,5 @@
 -- What the segments keep with one more.
-use Rattle.std.proofs.Common.{◌≡◌, ◌+◌, ℕ, List, arith, AllPairs, All, IsSome, true, sym, subst}
-use Rattle.std.specs.List.{list_any}
+use Rattle.std.proofs.Common.{◌≡◌, ◌+◌, List, arith, AllPairs, All, sym, subst}
 use Rattle.std.specs.BTreeMap.{get}
 use Rattle.std.specs.Ordering.{nat_cmp}
 use Rattle.std.proofs.lemmas.List.Elements.{All-push}
