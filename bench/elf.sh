@@ -1,5 +1,6 @@
 #!/usr/bin/env bash
 # Time and peak memory of the reader on large and on hostile ELF files.
+# The peak is at least that of the Python which starts the program, some 14,000 KiB.
 # usage: bench/elf.sh [FOLDER]   (the files are made in FOLDER, or in a new one that is removed again)
 set -eu
 cd "$(dirname "$0")/.."
