@@ -1,9 +1,9 @@
 -- The first broken rule of a kind is the fault that is answered.
-use Rattle.std.proofs.Common.{◌≡◌, ℕ, ◌+◌, ◌<◌, ◌≤◌, Bool, true, false, List, [], ◌∷◌, Some, None, All, Contains, refl, ap, sym, arith, rules, inl, inr, ◌⊎◌, subst, zero, suc}
+use Rattle.std.proofs.Common.{◌≡◌, ℕ, ◌+◌, ◌<◌, ◌≤◌, Bool, true, false, List, [], ◌∷◌, Some, None, All, refl, ap, sym, arith, rules, inl, inr, ◌⊎◌, subst, zero, suc}
 use Rattle.std.specs.Bool.{⊤}
 use Rattle.std.proofs.lemmas.List.Elements.{All-nil, All-cons, All-weaker}
 use Rattle.std.proofs.lemmas.Bool.{cases_lt}
-use Rattle.elf_mips.specs.Rules.{Rule, rule, broken_places, first_place, size_rules, magic_rules, kind_rules, table_rules}
+use Rattle.elf_mips.specs.Rules.{Rule, rule, IsLeast, broken_places, first_place, size_rules, magic_rules, kind_rules, table_rules}
 use Rattle.elf_mips.specs.Faults.{IsBroken, IsCleanBelow, IsFirstFault, Tells, offenders, order, rules_of}
 use Rattle.elf_mips.specs.declared.fault.ElfKind.{ElfKind}
 use Rattle.elf_mips.specs.declared.fault.ElfKind.TheVariants.{Short, NotElf, NotThisKind, BadTable, BadSegment, BadSection, BadRecord}
@@ -14,11 +14,6 @@ use Rattle.elf_mips.specs.declared.fault.ElfFault.TheVariants.{Bad, Memory}
 abbrev pub Rises : ℕ → List Rule → Type 0
 Rises low [] = ⊤
 Rises low (r ∷ rest) = (low ≤ r.place) × Rises r.place rest
-
--- The place is an offender, and none is at a lesser one.
-pub record IsLeast (place : ℕ) (places : List ℕ) : Type 0 where
-  pub here : Contains places place
-  pub least : All (λ other. place ≤ other) places
 
 -- No broken rule stands below the least place.
 above_step : (b : Bool) (p low : ℕ) (rest : List Rule) → low ≤ p →

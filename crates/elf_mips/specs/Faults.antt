@@ -1,21 +1,23 @@
 -- Which faults a file has, and which of them is answered.
-use Rattle.std.specs.Prelude.{◌≡◌, ℕ, ◌<◌, ◌≤◌, List, [], false, Some, All, Contains, ⊤}
+use Rattle.std.specs.Prelude.{◌≡◌, ℕ, ◌<◌, ◌≤◌, List, [], false, Some, Option, All, Contains, ⊤}
 use Rattle.elf_mips.specs.Headers.{header_at, is_good}
-use Rattle.elf_mips.specs.Rules.{Rule, broken_places, first_place, size_rules, magic_rules, kind_rules, table_rules, segment_rules}
+use Rattle.elf_mips.specs.Sections.{section_at, is_good_section}
+use Rattle.elf_mips.specs.Records.{record_places_to}
+use Rattle.elf_mips.specs.Rules.{Rule, IsLeastOf, record_rules_from, broken_places, first_place, size_rules, magic_rules, kind_rules, table_rules, segment_rules, section_rules, record_rules}
 use Rattle.elf_mips.specs.declared.fault.ElfKind.{ElfKind}
 use Rattle.elf_mips.specs.declared.fault.ElfKind.TheVariants.{Short, NotElf, NotThisKind, BadTable, BadSegment, BadSection, BadRecord}
 use Rattle.elf_mips.specs.declared.fault.ElfFault.{ElfFault}
 use Rattle.elf_mips.specs.declared.fault.ElfFault.TheVariants.{Bad, Memory}
 
--- The rules of each kind. Sections and records aren't read.
+-- The rules of each kind.
 abbrev pub rules_of : ElfKind → List ℕ → List Rule
 rules_of Short file = size_rules file
 rules_of NotElf file = magic_rules file
 rules_of NotThisKind file = kind_rules file
 rules_of BadTable file = table_rules file
 rules_of BadSegment file = segment_rules file
-rules_of BadSection file = []
-rules_of BadRecord file = []
+rules_of BadSection file = section_rules file
+rules_of BadRecord file = record_rules file
 
 -- The places of the faults of a kind.
 abbrev pub offenders : ElfKind → List ℕ → List ℕ
@@ -56,6 +58,17 @@ abbrev pub RefusesHeader : List ℕ → ℕ → ElfFault → Type 0
 RefusesHeader file number Memory = ⊤
 RefusesHeader file number (Bad kind place) =
     (kind ≡ BadSegment) × (place ≡ header_at file number) × (is_good file number ≡ false)
+
+-- An error says that the section of this number is bad.
+abbrev pub RefusesSection : List ℕ → ℕ → ElfFault → Type 0
+RefusesSection file number Memory = ⊥
+RefusesSection file number (Bad kind place) =
+    (kind ≡ BadSection) × (place ≡ section_at file number) × (is_good_section file number ≡ false)
+
+-- The least of the bad records in the first n sections.
+abbrev pub HasLeast : List ℕ → ℕ → Option ℕ → Type 0
+HasLeast file n least =
+    IsLeastOf (broken_places (record_rules_from file 0 (record_places_to file n))) least
 
 -- What an error says of a file; want of memory says nothing.
 abbrev pub Tells : List ℕ → ElfFault → Type 0

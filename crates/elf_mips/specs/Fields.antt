@@ -71,3 +71,32 @@ p_memsz at file = number_at 4 (at + 20) file
 
 abbrev pub p_flags : ℕ → List ℕ → ℕ
 p_flags at file = number_at 4 (at + 24) file
+
+-- The section header at an offset.
+abbrev pub sh_name : ℕ → List ℕ → ℕ
+sh_name at file = number_at 4 (at + 0) file
+
+abbrev pub sh_type : ℕ → List ℕ → ℕ
+sh_type at file = number_at 4 (at + 4) file
+
+abbrev pub sh_flags : ℕ → List ℕ → ℕ
+sh_flags at file = number_at 4 (at + 8) file
+
+abbrev pub sh_offset : ℕ → List ℕ → ℕ
+sh_offset at file = number_at 4 (at + 16) file
+
+abbrev pub sh_size : ℕ → List ℕ → ℕ
+sh_size at file = number_at 4 (at + 20) file
+
+abbrev pub sh_link : ℕ → List ℕ → ℕ
+sh_link at file = number_at 4 (at + 24) file
+
+-- The symbol at an offset.
+abbrev pub st_name : ℕ → List ℕ → ℕ
+st_name at file = number_at 4 (at + 0) file
+
+abbrev pub st_value : ℕ → List ℕ → ℕ
+st_value at file = number_at 4 (at + 4) file
+
+abbrev pub st_shndx : ℕ → List ℕ → ℕ
+st_shndx at file = number_at 2 (at + 14) file

@@ -2,8 +2,11 @@
 pub mod Fields
 pub mod Headers
 pub mod Segments
+pub mod Strings
+pub mod Sections
 pub mod Symbols
 pub mod Marks
+pub mod Records
 pub mod Rules
 pub mod Faults
 pub mod Image

@@ -1,8 +1,11 @@
--- What a file must keep: for each kind of fault a list of rules, by rising places.
-use Rattle.std.specs.Prelude.{ℕ, ◌+◌, ◌*◌, ◌==◌, ◌||◌, nat_lt, nat_le, not, Bool, List, [], ◌∷◌, length, map, filter, Option, Some, None, if◌then◌else◌}
-use Rattle.std.specs.List.{range_with_len}
+-- What a file must keep: for each kind of fault a list of rules. They stand by rising places, but for
+-- those of records, which stand in the order of their sections.
+use Rattle.std.specs.Prelude.{◌≡◌, ℕ, ◌≤◌, ◌+◌, ◌*◌, ◌==◌, ◌||◌, nat_lt, nat_le, not, Bool, List, [], ◌∷◌, length, map, filter, All, Contains, Option, Some, None, if◌then◌else◌}
+use Rattle.std.specs.List.{range_with_len, enumerate_from}
 use Rattle.elf_mips.specs.Fields.{magic, class, encoding, ident_version, e_type, e_machine, e_version, e_phoff, e_shoff, e_phentsize, e_phnum, e_shentsize, e_shnum, e_shstrndx}
 use Rattle.elf_mips.specs.Headers.{header_at, is_good}
+use Rattle.elf_mips.specs.Sections.{section_at, is_good_section}
+use Rattle.elf_mips.specs.Records.{record_places, is_good_record}
 
 -- Whether a rule is kept, and the place of the fault where it isn't.
 pub record Rule : Type 0 where
@@ -20,6 +23,16 @@ broken_places rules = map (λ r. r.place) (filter (λ r. not r.kept) rules)
 abbrev pub first_place : List Rule → Option ℕ
 first_place [] = None
 first_place (r ∷ rules) = if r.kept then first_place rules else Some r.place
+
+-- The place is one of these, and none is lesser.
+pub record IsLeast (place : ℕ) (places : List ℕ) : Type 0 where
+  pub here : Contains places place
+  pub least : All (λ other. place ≤ other) places
+
+-- The least of these places; there is none where there are no places.
+abbrev pub IsLeastOf : List ℕ → Option ℕ → Type 0
+IsLeastOf places None = places ≡ []
+IsLeastOf places (Some place) = IsLeast place places
 
 -- Short: the file has the bytes of an ELF header. The place is its length.
 unfoldable pub size_rules : List ℕ → List Rule
@@ -60,3 +73,18 @@ unfoldable pub segment_rules : List ℕ → List Rule
 segment_rules file =
     map (λ number. rule (is_good file number) (header_at file number))
     (range_with_len 0 (e_phnum file))
+
+-- Bad section: each section is good or isn't read. The place is the section header's.
+unfoldable pub section_rules : List ℕ → List Rule
+section_rules file =
+    map (λ number. rule (is_good_section file number) (section_at file number))
+    (range_with_len 0 (e_shnum file))
+
+-- The rules of records at these places, which are numbered from `first` on.
+abbrev pub record_rules_from : List ℕ → ℕ → List ℕ → List Rule
+record_rules_from file first places =
+    map (λ p. rule (is_good_record file p.0 p.1) p.1) (enumerate_from first places)
+
+-- Bad record: each record is good. The place is the record's.
+unfoldable pub record_rules : List ℕ → List Rule
+record_rules file = record_rules_from file 0 (record_places file)

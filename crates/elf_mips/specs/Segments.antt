@@ -1,5 +1,5 @@
 -- Loaded segments: which addresses they cover, and what they hold there.
-use Rattle.std.specs.Prelude.{◌≡◌, ℕ, ◌+◌, ◌-◌, ◌/◌, ◌%◌, ◌<◌, ◌≤◌, ◌==◌, ◌&&◌, nat_le, nat_lt, Bool, List, map, length, true, Option, Some, None, IsSome, option_map, option_and_then, find, All, AllPairs, sum_by, slice_index, slice_index_or, if◌then◌else◌}
+use Rattle.std.specs.Prelude.{◌≡◌, ℕ, ◌+◌, ◌-◌, ◌/◌, ◌%◌, ◌<◌, ◌≤◌, ◌==◌, ◌&&◌, nat_le, nat_lt, Bool, List, map, length, true, Option, Some, None, IsSome, is_some, option_map, option_and_then, find, All, AllPairs, sum_by, slice_index, slice_index_or, if◌then◌else◌}
 use Rattle.std.specs.List.{enumerate_from, list_any}
 use Rattle.elf_mips.specs.Fields.{number_at}
 use Rattle.elf_mips.specs.declared.segment.Segment.{Segment}
@@ -21,6 +21,16 @@ code_at segments address =
     then option_map (λ s. number_at 4 (address - s.address) s.bytes)
     (find (λ s. holds 4 address s && is_code s) segments)
     else None
+
+-- The segment is executable and writable, so that its words may change.
+abbrev pub is_open : Segment → Bool
+is_open s = s.flags % 2 == 1 && s.flags / 2 % 2 == 1
+
+-- The address is a multiple of 4, and the four bytes from it on lie in one segment that is executable and
+-- writable.
+abbrev pub is_writable_word : List Segment → ℕ → Bool
+is_writable_word segments address =
+    address % 4 == 0 && is_some (find (λ s. holds 4 address s && is_open s) segments)
 
 -- The byte that a segment holds at an address.
 abbrev pub byte_at : List Segment → ℕ → Option ℕ

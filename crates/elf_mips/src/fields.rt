@@ -49,6 +49,26 @@ pub const P_MEMSZ: usize = 20;
 
 pub const P_FLAGS: usize = 24;
 
+/// Offsets of a section header's fields.
+pub const SH_NAME: usize = 0;
+
+pub const SH_TYPE: usize = 4;
+
+pub const SH_FLAGS: usize = 8;
+
+pub const SH_OFFSET: usize = 16;
+
+pub const SH_SIZE: usize = 20;
+
+pub const SH_LINK: usize = 24;
+
+/// Offsets of a symbol's fields.
+pub const ST_NAME: usize = 0;
+
+pub const ST_VALUE: usize = 4;
+
+pub const ST_SHNDX: usize = 14;
+
 /// The number in one byte.
 pub fn u8_at(file: &[u8], at: usize) -> u32
     requires { at + 1 ≤ length file.now }

@@ -3,6 +3,7 @@
 ghost use Rattle.std.specs.Prelude.{◌≡◌, ◌+◌, ◌*◌, ◌<◌, ◌≤◌, ◌==◌, ◌||◌, nat_le, not, None, length, IfErr, OnOk};
 ghost use Rattle.elf_mips.specs.Fields.{e_shnum};
 ghost use Rattle.elf_mips.specs.Headers.{HasHeaders};
+ghost use Rattle.elf_mips.specs.Sections.{HasSections};
 ghost use Rattle.elf_mips.specs.Rules.{first_place, size_rules, magic_rules, kind_rules, table_rules};
 ghost use Rattle.elf_mips.specs.Faults.{IsBroken, IsCleanBelow, Tells};
 
@@ -19,6 +20,7 @@ pub fn check_header(file: &[u8]) -> Result<(), ElfFault>
     ensures err { IfErr result (Tells file.now) }
     ensures long { OnOk result (52 ≤ length file.now) }
     ensures room { OnOk result (HasHeaders file.now) }
+    ensures sections { OnOk result (HasSections file.now) }
 {
     check_size(file)?;
     check_magic(file)?;
@@ -78,6 +80,7 @@ fn check_tables(file: &[u8]) -> Result<(), ElfFault>
     ensures ok { OnOk result (first_place (table_rules file.now) ≡ None) }
     ensures err { IfErr result (IsBroken ElfKind.BadTable (table_rules file.now)) }
     ensures room { OnOk result (HasHeaders file.now) }
+    ensures sections { OnOk result (HasSections file.now) }
 {
     let kind = ElfKind::BadTable;
     let programs = u16_at(file, E_PHNUM);

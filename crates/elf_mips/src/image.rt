@@ -36,7 +36,7 @@ pub struct Image {
 }
 
 impl Image {
-    ghost use Rattle.elf_mips.specs.Segments.{code_at, byte_at};
+    ghost use Rattle.elf_mips.specs.Segments.{code_at, byte_at, is_writable_word};
     ghost use Rattle.elf_mips.specs.Symbols.{symbol_at};
 
     /// The image of these segments, with no symbols and no records.
@@ -51,13 +51,32 @@ impl Image {
         ensures symbols { IfOk result (λ image. image.symbols ≡ []) }
         ensures marks { IfOk result (λ image. image.marks ≡ []) }
     {
+        Image::from_parts(alloc, entry, segments, List::new(alloc), List::new(alloc))
+    }
+
+    /// The image of these segments, symbols and records.
+    pub(crate) fn from_parts(
+        alloc: Global,
+        entry: u32,
+        segments: List<Segment>,
+        symbols: List<Symbol>,
+        marks: List<Mark>,
+    ) -> Result<Image, AllocError>
+        requires segments { AreLawful segments }
+        requires marks { All (λ m. is_lawful m ≡ true) marks }
+        requires few { length marks ≤ 65536 }
+        ensures entry { IfOk result (λ image. image.entry ≡ entry) }
+        ensures segments { IfOk result (λ image. image.segments ≡ segments) }
+        ensures symbols { IfOk result (λ image. image.symbols ≡ symbols) }
+        ensures marks { IfOk result (λ image. image.marks ≡ marks) }
+    {
         let by_address = index_of(alloc, segments.as_slice())?;
         Ok(Image {
             entry,
             segments,
             by_address,
-            symbols: List::new(alloc),
-            marks: List::new(alloc),
+            symbols,
+            marks,
         })
     }
 
@@ -74,6 +93,19 @@ impl Image {
             return None;
         }
         Some(segment.word_from(address))
+    }
+
+    /// Whether the four bytes at a multiple of 4 lie in a segment that is executable and writable.
+    pub fn is_writable_word(&self, address: u32) -> bool
+        ensures { result ≡ is_writable_word self.now.segments address }
+    {
+        if address % 4 != 0 {
+            return false;
+        }
+        let Some(segment) = self.segment_at(address) else {
+            return false;
+        };
+        segment.holds(4, address) && segment.is_open()
     }
 
     /// The byte at an address; `None` where no segment covers it.

@@ -10,8 +10,12 @@ mod index;
 mod loader;
 mod mark;
 mod reader;
+mod records;
+mod section;
+mod sections;
 mod segment;
 mod symbol;
+mod symbols;
 
 pub use fault::{ElfFault, ElfKind};
 pub use header::has_sections;
@@ -22,5 +26,11 @@ pub use reader::read_image;
 pub use segment::{Segment, Start};
 pub use symbol::Symbol;
 
+#[cfg(test)]
+mod record_tests;
+#[cfg(test)]
+mod symbol_tests;
+#[cfg(test)]
+mod test_files;
 #[cfg(test)]
 mod tests;

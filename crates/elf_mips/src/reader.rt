@@ -15,7 +15,10 @@ use crate::fields::{
 use crate::header::check_header;
 use crate::image::Image;
 use crate::loader::Loader;
+use crate::records::{check_records, read_marks};
+use crate::sections::check_sections;
 use crate::segment::Segment;
+use crate::symbols::read_symbols;
 use std::alloc::{AllocError, Global};
 use wcet_io::List;
 
@@ -29,7 +32,12 @@ pub fn read_image(alloc: Global, bytes: &[u8]) -> Result<Image, ElfFault>
 {
     check_header(bytes)?;
     let segments = read_segments(alloc, bytes)?;
-    Ok(Image::from_segments(alloc, u32_at(bytes, E_ENTRY), segments)?)
+    check_sections(bytes)?;
+    check_records(bytes)?;
+    let symbols = read_symbols(alloc, bytes)?;
+    let marks = read_marks(alloc, bytes)?;
+    let entry = u32_at(bytes, E_ENTRY);
+    Ok(Image::from_parts(alloc, entry, segments, symbols, marks)?)
 }
 
 /// The segments of the loaded program headers, or the first bad one.
@@ -38,7 +46,7 @@ fn read_segments(alloc: Global, file: &[u8]) -> Result<List<Segment>, ElfFault>
     requires long { 52 ≤ length file.now }
     requires room { HasHeaders file.now }
     requires clean { IsCleanBelow 4 file.now }
-    ensures sound { OnOk result (IsClean file.now) }
+    ensures clean { OnOk result (IsCleanBelow 5 file.now) }
     ensures segments { IfOk result (λ s. s ≡ segments_to file.now (e_phnum file.now)) }
     ensures lawful { IfOk result AreLawful }
     ensures err { IfErr result (Tells file.now) }

@@ -29,7 +29,7 @@ pub struct Start {
 
 impl Segment {
     ghost use Rattle.elf_mips.specs.Fields.{number_at};
-    ghost use Rattle.elf_mips.specs.Segments.{holds, is_code};
+    ghost use Rattle.elf_mips.specs.Segments.{holds, is_code, is_open};
 
     /// Whether the `n` bytes from the address on lie in the segment.
     pub(crate) fn holds(&self, n: u32, address: u32) -> bool
@@ -44,6 +44,13 @@ impl Segment {
         ensures { result ≡ is_code self.now }
     {
         self.flags % 2 == 1 && self.flags / 2 % 2 == 0
+    }
+
+    /// Whether the segment is executable and writable.
+    pub(crate) fn is_open(&self) -> bool
+        ensures { result ≡ is_open self.now }
+    {
+        self.flags % 2 == 1 && self.flags / 2 % 2 == 1
     }
 
     /// The word at an address, the highest byte first.

@@ -1,6 +1,7 @@
 //! Small files read whole, cut short, and with one field changed.
 
-use crate::{ElfFault, ElfKind, Image, Segment, read_image};
+use crate::test_files::{fault_in, push_words};
+use crate::{ElfKind, Image, Segment, read_image};
 use std::alloc::{AllocError, Global};
 use std::test::Fail;
 use wcet_io::List;
@@ -36,25 +37,6 @@ fn file_of(alloc: Global, headers: &[[u32; 8]], words: &[u32]) -> Result<Vec<u8>
     }
     push_words(&mut file, words)?;
     Ok(file)
-}
-
-fn push_words(file: &mut Vec<u8>, words: &[u32]) -> Result<(), AllocError> {
-    for word in words {
-        file.extend_from_slice(&word.to_be_bytes())?;
-    }
-    Ok(())
-}
-
-/// The fault of a file with its place; `None` where it gives an image.
-fn fault_in(alloc: Global, file: &[u8]) -> Result<Option<(ElfKind, u32)>, Fail> {
-    if file.len() > 1000 {
-        return Err("a long file".into());
-    }
-    match read_image(alloc, file) {
-        Ok(_) => Ok(None),
-        Err(ElfFault::Bad { kind, offset }) => Ok(Some((kind, offset))),
-        Err(ElfFault::Memory) => Err("no memory".into()),
-    }
 }
 
 #[test]

@@ -14,6 +14,7 @@ mod tests;
 mod unit;
 
 pub use clash::has_clash;
+pub use cost::Costs;
 pub use fill::Fill;
 pub use machine::Machine;
 pub use mips_decode::{Regs, Touched, TrapKind};

@@ -1,39 +1,60 @@
 -- The faults of a file, and which of them is answered.
-use Rattle.std.specs.Prelude.{◌≡◌, ℕ, ◌<◌, ◌⊎◌, List, length, Contains}
+use Rattle.std.specs.Prelude.{◌≡◌, ℕ, ◌<◌, List, length, Contains, false}
 use Rattle.elf_mips.specs.declared.fault.ElfKind.TheVariants as elf
 use Rattle.elf_mips.specs.declared.image.Image.{Image}
 use Rattle.elf_mips.specs.Faults.{offenders}
-use Rattle.elf_mips.specs.Fields.{e_shnum}
 use Rattle.elf_mips.specs.Image.{IsImage}
-use Rattle.elf_mips.specs.Segments.{code_at}
 use Rattle.wcet_engine.specs.declared.refusal.RefusalKind.{RefusalKind}
-use Rattle.wcet_engine.specs.declared.refusal.RefusalKind.TheVariants.{TooLong, Short, NotElf, NotThisKind, BadTable, BadSegment, BadSection, BadRecord, Unbuilt}
+use Rattle.wcet_engine.specs.declared.refusal.RefusalKind.TheVariants.{TooLong, Short, NotElf, NotThisKind, BadTable, BadSegment, BadSection, BadRecord, RegionClash, Unbuilt, WritableCode, UnknownWord, TransferInSlot, UnknownTarget, LinkRegister, Recursion, Irreducible, NoBound, NeverReturns}
 use Rattle.wcet_engine.specs.declared.refusal.Refusal.{Refusal}
 use Rattle.elf_mips.specs.declared.fault.ElfFault.{ElfFault}
 use Rattle.elf_mips.specs.declared.fault.ElfFault.TheVariants as elf_fault
+use Rattle.unit_graph.specs.declared.fault.CodeFault.{CodeFault}
+use Rattle.unit_graph.specs.declared.fault.CodeFault.TheVariants as code_fault
 use Rattle.wcet_engine.specs.declared.analysis.Analysis.{Analysis}
 use Rattle.wcet_engine.specs.declared.analysis.Refused.{Refused}
 use Rattle.wcet_engine.specs.declared.analysis.Refused.TheVariants.{Fault, Memory}
-use Rattle.wcet_engine.specs.Refusals.{kind_of, rank}
-use Rattle.wcet_engine.specs.Sentence.{BoundsPlain}
-use Rattle.wcet_engine.specs.Line.{IsLine, line_cost}
+use Rattle.wcet_engine.specs.Refusals.{kind_of, kind_of_code, rank}
+use Rattle.cache_config.specs.declared.profile.Profile.{Profile}
+use Rattle.flow_net.specs.declared.net.Net.{Net}
+use Rattle.mips_machine.specs.Machine.{costs_of}
+use Rattle.net_model.specs.declared.unit.CodeKind.{CodeKind}
+use Rattle.net_model.specs.declared.unit.CodeKind.TheVariants as code
+use Rattle.net_model.specs.declared.unit.CodeUnit.{CodeUnit}
+use Rattle.net_model.specs.declared.unit.Content.TheVariants.{Unit as Stands}
+use Rattle.net_model.specs.Units.{content_at}
+use Rattle.net_model.specs.Onward.{returns}
+use Rattle.net_model.specs.Reached.{IsReached}
+use Rattle.net_model.specs.Faults.{Offends as IsCodeOffender}
+use Rattle.net_model.specs.Net.{IsNet}
+use Rattle.wcet_engine.specs.Sentence.{BoundsPlain, IsPlain}
+use Rattle.wcet_engine.specs.Clash.{IsClash}
+use Rattle.wcet_engine.specs.Costliest.{IsCostliest, place_price}
+use Rattle.wcet_engine.specs.Unbuilt.{IsUnbuiltAt}
 
 -- The most bytes of a file.
 abbrev pub file_limit : ℕ
 file_limit = 16777216
 
--- From the entry on the image holds no straight-line function.
-abbrev pub HasNoLine : Image → Type 0
-HasNoLine image = (count : ℕ) → IsLine (code_at image.segments) image.entry count → ⊥
+-- Under the plain profile a loaded segment and the stack have the address in common.
+abbrev pub IsPlainClash : Image → ℕ → Type 0
+IsPlainClash image place = (profile : Profile) → IsPlain profile → IsClash image profile place
 
--- The bound is the cost of the line that begins at the image's entry.
-abbrev pub IsLineBound : Image → ℕ → Type 0
-IsLineBound image bound =
-    (count : ℕ) × IsLine (code_at image.segments) image.entry count × (bound ≡ line_cost count)
+-- The program's code has a fault of the kind at the place.
+abbrev pub IsCodeFault : CodeKind → Image → ℕ → Type 0
+IsCodeFault kind image place = IsCodeOffender image image.entry kind place
 
--- The file is of no form that is analysed: it has section headers, or its entry begins no straight line.
-abbrev pub IsUnbuilt : List ℕ → Type 0
-IsUnbuilt file = (e_shnum file ≡ 0 → ⊥) ⊎ ((image : Image) × IsImage file image × HasNoLine image)
+-- No unit that the entry function reaches returns.
+abbrev pub HasNoReturn : Image → Type 0
+HasNoReturn image =
+    (address : ℕ) (unit : CodeUnit) → IsReached image image.entry address → content_at image address ≡ Stands unit →
+    returns unit ≡ false
+
+-- What is said of the image of a file.
+pub record OfImage (file : List ℕ) (Says : Image → Type 0) : Type 0 where
+  pub image : Image
+  pub read : IsImage file image
+  pub says : Says image
 
 -- A kind has an offender in the file at a place.
 abbrev pub Offends : List ℕ → RefusalKind → ℕ → Type 0
@@ -45,7 +66,17 @@ Offends file BadTable place = Contains (offenders elf.BadTable file) place
 Offends file BadSegment place = Contains (offenders elf.BadSegment file) place
 Offends file BadSection place = Contains (offenders elf.BadSection file) place
 Offends file BadRecord place = Contains (offenders elf.BadRecord file) place
-Offends file Unbuilt place = (place ≡ 0) × IsUnbuilt file
+Offends file RegionClash place = OfImage file (λ image. IsPlainClash image place)
+Offends file Unbuilt place = OfImage file (λ image. IsUnbuiltAt image image.entry place)
+Offends file WritableCode place = OfImage file (λ image. IsCodeFault code.WritableCode image place)
+Offends file UnknownWord place = OfImage file (λ image. IsCodeFault code.UnknownWord image place)
+Offends file TransferInSlot place = OfImage file (λ image. IsCodeFault code.TransferInSlot image place)
+Offends file UnknownTarget place = OfImage file (λ image. IsCodeFault code.UnknownTarget image place)
+Offends file LinkRegister place = OfImage file (λ image. IsCodeFault code.LinkRegister image place)
+Offends file Recursion place = OfImage file (λ image. IsCodeFault code.Recursion image place)
+Offends file Irreducible place = OfImage file (λ image. IsCodeFault code.Irreducible image place)
+Offends file NoBound place = OfImage file (λ image. IsCodeFault code.NoBound image place)
+Offends file NeverReturns place = OfImage file (λ image. (place ≡ image.entry) × HasNoReturn image)
 
 -- The first fault: no earlier kind has an offender, and no lesser place has one of this kind.
 pub record IsFirstFault (file : List ℕ) (refusal : Refusal) : Type 0 where
@@ -57,13 +88,20 @@ pub record IsFirstFault (file : List ℕ) (refusal : Refusal) : Type 0 where
 abbrev pub HasNoFault : List ℕ → Type 0
 HasNoFault file = (kind : RefusalKind) (place : ℕ) → Offends file kind place → ⊥
 
--- What an analysis says of a file without a fault: the file's image, and the bound of its line, which no
--- run that the sentence speaks of exceeds under the plain profile.
+-- The bound is the cost of the costliest path of the net under the plain profile.
+abbrev pub IsPlainCostliest : Image → Net → ℕ → Type 0
+IsPlainCostliest image net bound =
+    (profile : Profile) → IsPlain profile → IsCostliest (place_price (costs_of profile) image net) net.arcs bound
+
+-- What an analysis says of a file without a fault: the file's image, the net of its entry function, and the bound:
+-- the cost of its costliest path, which no run that the sentence speaks of exceeds under the plain profile.
 pub record IsAnalysis (file : List ℕ) (analysis : Analysis) : Type 0 where
   pub faultless : HasNoFault file
   pub image : Image
   pub read : IsImage file image
-  pub line : IsLineBound image analysis.bound
+  pub net : Net
+  pub is_net : IsNet image image.entry net
+  pub costliest : IsPlainCostliest image net analysis.bound
   pub bounds : BoundsPlain image image.entry analysis.bound
 
 -- What an error says of a file; want of memory says nothing.
@@ -75,3 +113,8 @@ TellsFault file Memory = Unit {0}
 abbrev pub refused_of : ElfFault → Refused
 refused_of (elf_fault.Bad kind offset) = Fault (record { kind = kind_of kind; place = offset })
 refused_of elf_fault.Memory = Memory
+
+-- The error for a fault of the code.
+abbrev pub refused_by : CodeFault → Refused
+refused_by (code_fault.Bad kind address) = Fault (record { kind = kind_of_code kind; place = address })
+refused_by code_fault.Memory = Memory

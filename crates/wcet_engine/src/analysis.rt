@@ -2,10 +2,13 @@
 
 ghost use Rattle.std.specs.Prelude.{◌≡◌, ◌≤◌, length, IfOk, IfErr};
 
-use crate::line::line_bound;
+use crate::clash::clash_place;
+use crate::code::{bound_of, built_code, check_code};
 use crate::refusal::{Refusal, RefusalKind};
-use elf_mips::{ElfFault, has_sections, read_image};
-use std::alloc::Global;
+use cache_config::Profile;
+use elf_mips::{ElfFault, read_image};
+use std::alloc::{AllocError, Global};
+use unit_graph::CodeFault;
 
 /// What the analysis of a file found.
 #[derive(Clone, Copy, Debug, PartialEq, Eq)]
@@ -23,11 +26,14 @@ pub enum Refused {
     Memory,
 }
 
-/// The file isn't of the form that is analysed.
-const UNBUILT: Refused = Refused::Fault(Refusal {
-    kind: RefusalKind::Unbuilt,
-    place: 0,
-});
+impl Refused {
+    /// A fault of this kind at this place.
+    pub fn at(kind: RefusalKind, place: u32) -> Refused
+        ensures { result ≡ Refused.Fault (record { kind = kind; place = place }) }
+    {
+        Refused::Fault(Refusal { kind, place })
+    }
+}
 
 impl From<ElfFault> for Refused {
     ghost use Rattle.wcet_engine.specs.Faults.{refused_of};
@@ -36,12 +42,32 @@ impl From<ElfFault> for Refused {
 
     fn from(fault: ElfFault) -> Refused {
         match fault {
-            ElfFault::Bad { kind, offset } => Refused::Fault(Refusal {
-                kind: RefusalKind::of_elf(kind),
-                place: offset,
-            }),
+            ElfFault::Bad { kind, offset } => Refused::at(RefusalKind::of_elf(kind), offset),
             ElfFault::Memory => Refused::Memory,
         }
+    }
+}
+
+impl From<CodeFault> for Refused {
+    ghost use Rattle.wcet_engine.specs.Faults.{refused_by};
+
+    ghost from_gives = { λ fault e. e ≡ refused_by fault };
+
+    fn from(fault: CodeFault) -> Refused {
+        match fault {
+            CodeFault::Bad { kind, address } => Refused::at(RefusalKind::of_code(kind), address),
+            CodeFault::Memory => Refused::Memory,
+        }
+    }
+}
+
+impl From<AllocError> for Refused {
+    ghost use Rattle.wcet_engine.specs.declared.analysis.Refused.{Refused};
+
+    ghost from_gives = { λ error e. e ≡ Refused.Memory };
+
+    fn from(error: AllocError) -> Refused {
+        Refused::Memory
     }
 }
 
@@ -57,11 +83,12 @@ pub fn analyse_bytes(alloc: Global, elf: &[u8]) -> Result<Analysis, Refused>
     ensures refused { IfErr result (TellsFault elf.now) }
 {
     let image = read_image(alloc, elf)?;
-    if has_sections(elf) {
-        return Err(UNBUILT);
+    let profile = Profile::plain(alloc);
+    if let Some(place) = clash_place(&image, &profile) {
+        return Err(Refused::at(RefusalKind::RegionClash, place));
     }
-    let Some(bound) = line_bound(&image) else {
-        return Err(UNBUILT);
-    };
+    let code = built_code(alloc, &image)?;
+    check_code(alloc, &image)?;
+    let bound = bound_of(alloc, &image, &profile, &code)?;
     Ok(Analysis { bound })
 }

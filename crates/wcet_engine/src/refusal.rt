@@ -3,6 +3,7 @@
 ghost use Rattle.std.specs.Prelude.{◌≡◌};
 
 use elf_mips::ElfKind;
+use unit_graph::CodeKind;
 
 /// The kinds of refusals, in the order in which they are looked for.
 #[derive(Clone, Copy, Debug, PartialEq, Eq)]
@@ -23,8 +24,29 @@ pub enum RefusalKind {
     BadSection,
     /// A record isn't lawful. The place is its offset in the file.
     BadRecord,
-    /// The file isn't of the form that is analysed. The place is 0.
+    /// The stack shares an address with a loaded segment. The place is the least such address.
+    RegionClash,
+    /// The entry reaches a call, an indirect jump or a cycle, which aren't analysed yet. The place is the
+    /// unit's address.
     Unbuilt,
+    /// A reached word lies in a segment that can be executed and written. The place is its address.
+    WritableCode,
+    /// A reached address holds no executable word, or one of no instruction. The place is the address.
+    UnknownWord,
+    /// A delay slot holds a jump or branch. The place is the slot's address.
+    TransferInSlot,
+    /// A reached indirect jump or call has no recorded target. It doesn't come yet.
+    UnknownTarget,
+    /// A reached JALR links to another register than 31. It doesn't come yet.
+    LinkRegister,
+    /// A function calls itself, directly or through others. It doesn't come yet.
+    Recursion,
+    /// A unit lies on a cycle that isn't entered at one header alone. It doesn't come yet.
+    Irreducible,
+    /// A loop has no recorded bound. It doesn't come yet.
+    NoBound,
+    /// The entry function never returns. The place is its entry.
+    NeverReturns,
 }
 
 /// A kind and its place: an offset in the file, an address or a limit.
@@ -35,7 +57,7 @@ pub struct Refusal {
 }
 
 impl RefusalKind {
-    ghost use Rattle.wcet_engine.specs.Refusals.{kind_of, name_of};
+    ghost use Rattle.wcet_engine.specs.Refusals.{kind_of, kind_of_code, name_of};
 
     /// The kind of a fault that the reader of ELF files found.
     pub fn of_elf(kind: ElfKind) -> RefusalKind
@@ -52,6 +74,22 @@ impl RefusalKind {
         }
     }
 
+    /// The kind of a fault of the code.
+    pub fn of_code(kind: CodeKind) -> RefusalKind
+        ensures { result ≡ kind_of_code kind }
+    {
+        match kind {
+            CodeKind::WritableCode => RefusalKind::WritableCode,
+            CodeKind::UnknownWord => RefusalKind::UnknownWord,
+            CodeKind::TransferInSlot => RefusalKind::TransferInSlot,
+            CodeKind::UnknownTarget => RefusalKind::UnknownTarget,
+            CodeKind::LinkRegister => RefusalKind::LinkRegister,
+            CodeKind::Recursion => RefusalKind::Recursion,
+            CodeKind::Irreducible => RefusalKind::Irreducible,
+            CodeKind::NoBound => RefusalKind::NoBound,
+        }
+    }
+
     /// The name that a refusal line has.
     pub fn name(&self) -> &'static str
         ensures { result.now ≡ name_of self.now }
@@ -65,7 +103,17 @@ impl RefusalKind {
             RefusalKind::BadSegment => "bad-segment",
             RefusalKind::BadSection => "bad-section",
             RefusalKind::BadRecord => "bad-record",
+            RefusalKind::RegionClash => "region-clash",
             RefusalKind::Unbuilt => "unbuilt",
+            RefusalKind::WritableCode => "writable-code",
+            RefusalKind::UnknownWord => "unknown-word",
+            RefusalKind::TransferInSlot => "transfer-in-slot",
+            RefusalKind::UnknownTarget => "unknown-target",
+            RefusalKind::LinkRegister => "link-register",
+            RefusalKind::Recursion => "recursion",
+            RefusalKind::Irreducible => "irreducible",
+            RefusalKind::NoBound => "no-bound",
+            RefusalKind::NeverReturns => "never-returns",
         }
     }
 }

@@ -11,7 +11,7 @@ use wcet_io::{MemShelf, MemSink};
 const ENTRY: u32 = 0x0040_0000;
 
 /// An executable of one segment of flags 5 that holds these words, entered at its first one.
-fn file_of(alloc: Global, words: &[u32]) -> Result<Vec<u8>, AllocError>
+pub fn file_of(alloc: Global, words: &[u32]) -> Result<Vec<u8>, AllocError>
     requires { length words.now ≤ 64 }
 {
     let size = (4 * words.len()) as u32;
@@ -80,51 +80,12 @@ fn answer(
 }
 
 /// The line that `analyse` prints for a file, with its status.
-fn analysed(alloc: Global, bytes: &[u8]) -> Result<(Status, Vec<u8>), Fail> {
+pub fn analysed(alloc: Global, bytes: &[u8]) -> Result<(Status, Vec<u8>), Fail> {
     answer(alloc, &["analyse", "f"], bytes, &[], 16, &[])
 }
 
-#[test]
-fn prints_bounds_and_unbuilt_forms(rt: HostRuntime) -> Result<(), Fail> {
-    let alloc = rt.alloc();
-    let rows: [(&[u32], Status, &str); 6] = [
-        (&[0x03E0_0008, 0], Status::Done, "bound 22\n"),
-        (
-            &[0x2408_0005, 0, 0x03E0_0008, 0x2508_0001],
-            Status::Done,
-            "bound 44\n",
-        ),
-        (
-            &[0x0000_000D],
-            Status::Refused,
-            "refused unbuilt 00000000\n",
-        ),
-        (
-            &[0x03E0_0008],
-            Status::Refused,
-            "refused unbuilt 00000000\n",
-        ),
-        (
-            &[0x8FA8_0000, 0x03E0_0008, 0],
-            Status::Refused,
-            "refused unbuilt 00000000\n",
-        ),
-        (&[], Status::Refused, "refused unbuilt 00000000\n"),
-    ];
-    for (words, status, line) in rows {
-        if words.len() > 64 {
-            return Ok(());
-        }
-        let file = file_of(alloc, words)?;
-        let got = analysed(alloc, &file)?;
-        assert_eq!(rt; got.0, status);
-        assert_eq!(rt; got.1.as_slice(), line.as_bytes());
-    }
-    Ok(())
-}
-
 /// Puts bytes over those from a place on, as far as they reach.
-fn put(file: &mut [u8], place: usize, bytes: &[u8]) {
+pub fn put(file: &mut [u8], place: usize, bytes: &[u8]) {
     if place > file.len() {
         return;
     }
@@ -146,7 +107,7 @@ fn prints_the_first_fault(rt: HostRuntime) -> Result<(), Fail> {
         (0x2B, &[31], "refused bad-table 0000002A\n"),
         (0x2C, &[0xFF, 0xFF], "refused bad-table 0000001C\n"),
         (0x30, &[1], "refused bad-table 00000020\n"),
-        (0x31, &[1], "refused unbuilt 00000000\n"),
+        (0x31, &[1], "refused bad-section 00000000\n"),
         (
             0x38,
             &[0xFF, 0xFF, 0xFF, 0xFF],
@@ -158,7 +119,7 @@ fn prints_the_first_fault(rt: HostRuntime) -> Result<(), Fail> {
             "refused bad-segment 00000034\n",
         ),
         (0x47, &[9], "refused bad-segment 00000034\n"),
-        (0x4B, &[0], "refused unbuilt 00000000\n"),
+        (0x4B, &[0], "refused unknown-word 00400000\n"),
     ];
     for (place, bytes, line) in rows {
         let mut changed = file.as_slice().to_vec(alloc)?;

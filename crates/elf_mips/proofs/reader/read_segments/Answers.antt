@@ -23,7 +23,7 @@ loop-number-preserved c =
     c.in_ok-loader.loader.segments c.loop-number.invariant c.in_ok-loader.ensures.good
     c.in_ok-loader.ensures.segments
 
-pub returns-clause-sound : goal.returns-clause-sound
-returns-clause-sound c =
+pub returns-clause-clean : goal.returns-clause-clean
+returns-clause-clean c =
     clean_at c.args.file.now c.loop-number.number c.requires.clean
     (omega (arith, c.u16_at-count.ensures.value)) c.loop-number.invariant.good

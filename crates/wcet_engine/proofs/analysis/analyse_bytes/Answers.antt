@@ -1,7 +1,10 @@
 -- Each answer is the file's first fault, or an analysis of a file without one.
-use Rattle.std.proofs.Common.{inl, inr}
 use Rattle.std.proofs.lemmas.Result.{err_from_is_err_and}
-use Rattle.wcet_engine.proofs.FaultLemmas.{HasNoFault-line, IsFirstFault-unbuilt, TellsFault-tells, no_sections, some_sections}
+use Rattle.wcet_engine.specs.Clash.{IsClash}
+use Rattle.wcet_engine.specs.Sentence.{IsPlain}
+use Rattle.wcet_engine.proofs.FaultLemmas.{IsFirstFault-clash, TellsFault-tells, free-apart, free-built, free-code, free-read, no-clash}
+use Rattle.wcet_engine.proofs.LeastLemmas.{finds-none}
+use Rattle.wcet_engine.proofs.StageLemmas.{is-analysed, tells-code, tells-never, tells-unbuilt}
 use Rattle.wcet_engine.proofs.analysis.analyse_bytes.Goals as goal
 
 pub returns-in_err-image-clause-refused : goal.returns-in_err-image-clause-refused
@@ -9,27 +12,98 @@ returns-in_err-image-clause-refused c =
     let p = err_from_is_err_and c.from_residual.result c.from_residual.ensures.1 in
     rw (p.1, p.2) (TellsFault-tells c.args.elf.now _ c.requires c.in_err-image.ensures.err)
 
-pub returns-then-has_sections-clause-refused : goal.returns-then-has_sections-clause-refused
-returns-then-has_sections-clause-refused c =
-    IsFirstFault-unbuilt c.args.elf.now c.requires c.in_ok-image.ensures.sound
-    (inl (some_sections c.args.elf.now c.has_sections.result c.has_sections.ensures c.if-has_sections.true))
+pub returns-in-Some-clause-refused : goal.returns-in-Some-clause-refused
+returns-in-Some-clause-refused c =
+    let e = c.plain-profile.ensures in
+    let plain : IsPlain c.plain-profile.result = record {
+      memory = e.memory;
+      store = e.store;
+      stack_top = e.stack_top;
+      stack_size = e.stack_size;
+      pointer = e.gp;
+      cycles = e.cycles;
+      regions = e.regions;
+    } in
+    let free = free-read c.args.elf.now c.in_ok-image.image c.requires c.in_ok-image.ensures.sound c.in_ok-image.ensures.image in
+    rw c.at.ensures (IsFirstFault-clash c.args.elf.now c.in_ok-image.image c.plain-profile.result c.in-Some.place free plain c.in-Some.ensures)
 
-pub returns-in_default-clause-refused : goal.returns-in_default-clause-refused
-returns-in_default-clause-refused c =
-    IsFirstFault-unbuilt c.args.elf.now c.requires c.in_ok-image.ensures.sound
-    (inr (c.in_ok-image.image, c.in_ok-image.ensures.image, c.in_default.ensures.none))
+pub returns-in_err-code-clause-refused : goal.returns-in_err-code-clause-refused
+returns-in_err-code-clause-refused c =
+    let e = c.plain-profile.ensures in
+    let plain : IsPlain c.plain-profile.result = record {
+      memory = e.memory;
+      store = e.store;
+      stack_top = e.stack_top;
+      stack_size = e.stack_size;
+      pointer = e.gp;
+      cycles = e.cycles;
+      regions = e.regions;
+    } in
+    let free = free-read c.args.elf.now c.in_ok-image.image c.requires c.in_ok-image.ensures.sound c.in_ok-image.ensures.image in
+    let apart = no-clash c.in_ok-image.image c.plain-profile.result plain
+    (finds-none (IsClash c.in_ok-image.image c.plain-profile.result) c.clash_place.result c.in_default.not-Some c.clash_place.ensures) in
+    let nine = free-apart c.args.elf.now c.in_ok-image.image free apart in
+    let p = err_from_is_err_and c.from_residual-in_err-code.result c.from_residual-in_err-code.ensures.1 in
+    rw (p.1, p.2) (tells-unbuilt c.args.elf.now c.in_ok-image.image _ nine c.in_err-code.ensures.unbuilt)
+
+pub returns-in_err-check_code-clause-refused : goal.returns-in_err-check_code-clause-refused
+returns-in_err-check_code-clause-refused c =
+    let e = c.plain-profile.ensures in
+    let plain : IsPlain c.plain-profile.result = record {
+      memory = e.memory;
+      store = e.store;
+      stack_top = e.stack_top;
+      stack_size = e.stack_size;
+      pointer = e.gp;
+      cycles = e.cycles;
+      regions = e.regions;
+    } in
+    let free = free-read c.args.elf.now c.in_ok-image.image c.requires c.in_ok-image.ensures.sound c.in_ok-image.ensures.image in
+    let apart = no-clash c.in_ok-image.image c.plain-profile.result plain
+    (finds-none (IsClash c.in_ok-image.image c.plain-profile.result) c.clash_place.result c.in_default.not-Some c.clash_place.ensures) in
+    let nine = free-apart c.args.elf.now c.in_ok-image.image free apart in
+    let ten = free-built c.args.elf.now c.in_ok-image.image nine c.in_ok-code.ensures.code.built in
+    let p = err_from_is_err_and c.from_residual-in_err-check_code.result c.from_residual-in_err-check_code.ensures.1 in
+    rw (p.1, p.2) (tells-code c.args.elf.now c.in_ok-image.image _ ten c.in_err-check_code.ensures.bad)
+
+pub returns-in_err-bound-clause-refused : goal.returns-in_err-bound-clause-refused
+returns-in_err-bound-clause-refused c =
+    let e = c.plain-profile.ensures in
+    let plain : IsPlain c.plain-profile.result = record {
+      memory = e.memory;
+      store = e.store;
+      stack_top = e.stack_top;
+      stack_size = e.stack_size;
+      pointer = e.gp;
+      cycles = e.cycles;
+      regions = e.regions;
+    } in
+    let free = free-read c.args.elf.now c.in_ok-image.image c.requires c.in_ok-image.ensures.sound c.in_ok-image.ensures.image in
+    let apart = no-clash c.in_ok-image.image c.plain-profile.result plain
+    (finds-none (IsClash c.in_ok-image.image c.plain-profile.result) c.clash_place.result c.in_default.not-Some c.clash_place.ensures) in
+    let nine = free-apart c.args.elf.now c.in_ok-image.image free apart in
+    let ten = free-built c.args.elf.now c.in_ok-image.image nine c.in_ok-code.ensures.code.built in
+    let most = free-code c.args.elf.now c.in_ok-image.image ten c.in_ok-check_code.ensures.faultless in
+    let p = err_from_is_err_and c.from_residual-in_err-bound.result c.from_residual-in_err-bound.ensures.1 in
+    rw (p.1, p.2) (tells-never c.args.elf.now c.in_ok-image.image _ most c.in_err-bound.ensures.never)
 
 pub returns-clause-analysed : goal.returns-clause-analysed
 returns-clause-analysed c =
-    let file = c.args.elf.now in
-    let image = c.in_ok-image.image in
-    let line = c.in-Some.ensures.line in
-    record {
-      faultless = HasNoFault-line file image line.0 c.requires c.in_ok-image.ensures.sound
-          (no_sections file c.has_sections.result c.has_sections.ensures c.if-has_sections.false)
-          c.in_ok-image.ensures.image line.1;
-      image = image;
-      read = c.in_ok-image.ensures.image;
-      line = line;
-      bounds = c.in-Some.ensures.bounds;
-    }
+    let e = c.plain-profile.ensures in
+    let plain : IsPlain c.plain-profile.result = record {
+      memory = e.memory;
+      store = e.store;
+      stack_top = e.stack_top;
+      stack_size = e.stack_size;
+      pointer = e.gp;
+      cycles = e.cycles;
+      regions = e.regions;
+    } in
+    let free = free-read c.args.elf.now c.in_ok-image.image c.requires c.in_ok-image.ensures.sound c.in_ok-image.ensures.image in
+    let apart = no-clash c.in_ok-image.image c.plain-profile.result plain
+    (finds-none (IsClash c.in_ok-image.image c.plain-profile.result) c.clash_place.result c.in_default.not-Some c.clash_place.ensures) in
+    let nine = free-apart c.args.elf.now c.in_ok-image.image free apart in
+    let ten = free-built c.args.elf.now c.in_ok-image.image nine c.in_ok-code.ensures.code.built in
+    let most = free-code c.args.elf.now c.in_ok-image.image ten c.in_ok-check_code.ensures.faultless in
+    is-analysed c.args.elf.now c.in_ok-image.image c.plain-profile.result c.in_ok-bound.bound most c.in_ok-check_code.ensures.faultless
+    c.in_ok-code.ensures.code.built plain c.in_ok-bound.ensures.bound

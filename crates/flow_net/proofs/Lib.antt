@@ -1,0 +1,8 @@
+-- Lemmas of this crate.
+pub mod Numbers
+pub mod Within
+pub mod Chains
+pub mod Holds
+pub mod Headers
+pub mod OnLiterals
+mod OnNested

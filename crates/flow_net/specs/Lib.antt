@@ -1,0 +1,6 @@
+-- What the contracts on the net of a program say.
+pub mod Numbers
+pub mod Letters
+pub mod Scopes
+pub mod Paths
+pub mod Nested

@@ -1,0 +1,8 @@
+-- What an image's code means as a graph.
+pub mod Units
+pub mod Onward
+pub mod Reached
+pub mod Faults
+pub mod Ways
+pub mod Net
+pub mod Loops

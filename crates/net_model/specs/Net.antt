@@ -1,0 +1,56 @@
+-- The net of a function: a place for each unit that it reaches, an arc for each way on.
+use Rattle.std.specs.Prelude.{◌≡◌, ℕ, ◌<◌, ◌⊎◌, [], ◌∷◌, drop, All, AllPairs, Contains, Some, true}
+use Rattle.elf_mips.specs.declared.image.Image.{Image}
+use Rattle.flow_net.specs.Numbers.{item_at}
+use Rattle.flow_net.specs.declared.net.Net.{Net}
+use Rattle.flow_net.specs.declared.net.NetArc.{NetArc}
+use Rattle.flow_net.specs.declared.net.Place.{Place}
+use Rattle.net_model.specs.declared.unit.CodeUnit.{CodeUnit}
+use Rattle.net_model.specs.declared.unit.Content.TheVariants.{Unit as Stands}
+use Rattle.net_model.specs.Units.{content_at}
+use Rattle.net_model.specs.Onward.{onward, returns}
+use Rattle.net_model.specs.Reached.{IsReached}
+
+-- The place of a number stands for the unit at an address.
+pub record IsPlaceAt (net : Net) (number address : ℕ) : Type 0 where
+  pub place : Place
+  pub there : item_at number net.places ≡ Some place
+  pub same : place.address ≡ address
+
+-- A unit leads to the places of its onward units, and a return unit to 0.
+abbrev pub LeadsTo : Net → CodeUnit → (address to : ℕ) → Type 0
+LeadsTo net unit address to =
+    ((later : ℕ) × Contains (onward unit address) later × IsPlaceAt net to later)
+    ⊎ ((to ≡ 0) × (returns unit ≡ true))
+
+-- The unit of a place leads to another place, or to 0.
+pub record LeadsOn (image : Image) (net : Net) (from to : ℕ) : Type 0 where
+  pub place : Place
+  pub there : item_at from net.places ≡ Some place
+  pub unit : CodeUnit
+  pub stands : content_at image place.address ≡ Stands unit
+  pub leads : LeadsTo net unit place.address to
+
+-- The order of arcs: by their sources, then by their targets, with 0 as the last target.
+abbrev pub IsTargetBefore : ℕ → ℕ → Type 0
+IsTargetBefore to other = (0 < to) × ((other ≡ 0) ⊎ (to < other))
+
+abbrev pub IsArcBefore : NetArc → NetArc → Type 0
+IsArcBefore arc other =
+    (arc.from < other.from) ⊎ ((arc.from ≡ other.from) × IsTargetBefore arc.to other.to)
+
+-- The net of a function without loops: its one context, its places by rising addresses, and its arcs.
+-- Arc 1 goes from 0 to the entry's place. Each further arc is a way on, and each way on is one arc.
+pub record IsNet (image : Image) (entry : ℕ) (net : Net) : Type 0 where
+  pub contexts : net.contexts ≡ record { parent = 0; site = 0; target = entry } ∷ []
+  pub loops : net.loops ≡ []
+  pub flat : All (λ (place : Place). (place.context ≡ 0) × (place.scope ≡ 0)) net.places
+  pub rising : AllPairs (λ (place other : Place). place.address < other.address) net.places
+  pub reached : All (λ (place : Place). IsReached image entry place.address) net.places
+  pub whole : (address : ℕ) → IsReached image entry address → (number : ℕ) × IsPlaceAt net number address
+  pub first : (arc : NetArc) × (item_at 1 net.arcs ≡ Some arc) × (arc.from ≡ 0) × IsPlaceAt net arc.to entry
+  pub ways : (number : ℕ) (arc : NetArc) → item_at number net.arcs ≡ Some arc → 1 < number →
+      LeadsOn image net arc.from arc.to
+  pub arcs : (from to : ℕ) → LeadsOn image net from to →
+      (number : ℕ) × (1 < number) × (item_at number net.arcs ≡ Some (record { from = from; to = to }))
+  pub order : AllPairs IsArcBefore (drop 1 net.arcs)

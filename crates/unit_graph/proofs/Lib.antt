@@ -1,0 +1,8 @@
+-- Lemmas of this crate.
+pub mod Contained
+pub mod Drawn
+pub mod Foremost
+pub mod LowWords
+pub mod Searching
+pub mod Seen
+pub mod Sets

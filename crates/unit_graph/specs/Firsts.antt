@@ -1,0 +1,32 @@
+-- The first of the faults of some contents.
+use Rattle.std.specs.Prelude.{◌≡◌, ℕ, ◌<◌, ◌≤◌, ◌⊎◌, List, Contains, Option, Some, None}
+use Rattle.net_model.specs.declared.unit.CodeKind.{CodeKind}
+use Rattle.net_model.specs.declared.unit.Content.{Content}
+use Rattle.net_model.specs.declared.unit.Content.TheVariants.{Unit as Stands, Fault}
+use Rattle.net_model.specs.Faults.{rank}
+use Rattle.unit_graph.specs.declared.first.Offence.{Offence}
+use Rattle.unit_graph.specs.declared.reached.Reached.{Reached}
+
+-- A fault of this kind and place doesn't come before the offence: its kind is a later one, or it is of
+-- the same rank and its place isn't a lesser one.
+abbrev pub IsNoEarlier : Offence → CodeKind → ℕ → Type 0
+IsNoEarlier offence kind place =
+    (rank offence.kind < rank kind) ⊎ ((rank offence.kind ≡ rank kind) × (offence.place ≤ place))
+
+-- What stands there is no fault that comes before the first one. Where there is no first one, it is no
+-- fault at all.
+abbrev pub Follows : Option Offence → Content → Type 0
+Follows first (Stands unit) = Unit {0}
+Follows None (Fault kind place) = ⊥
+Follows (Some offence) (Fault kind place) = IsNoEarlier offence kind place
+
+-- The first fault, if there is one, is that of these contents.
+abbrev pub IsFaultOf : Option Offence → Content → Type 0
+IsFaultOf None content = ⊥
+IsFaultOf (Some offence) content = content ≡ Fault offence.kind offence.place
+
+-- The first fault, if there is one, is one of the faults.
+abbrev pub IsAmong : Option Offence → List Reached → Type 0
+IsAmong None reached = Unit {0}
+IsAmong (Some offence) reached =
+    (r : Reached) × Contains reached r × (r.content ≡ Fault offence.kind offence.place)

@@ -1,0 +1,7 @@
+-- What the graph of a program's functions says.
+pub mod Contents
+pub mod Firsts
+pub mod Graphs
+pub mod Nodes
+pub mod Search
+pub mod Ways

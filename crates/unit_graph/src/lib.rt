@@ -1,0 +1,24 @@
+//! The graph of a program's functions: which units are reached, and how each goes on.
+#![tactic(auto)]
+
+mod content;
+mod fault;
+mod first;
+mod graph;
+mod node;
+mod reached;
+mod search;
+#[cfg(test)]
+mod tests;
+mod ways;
+
+pub use content::{content_at, is_transfer};
+pub use fault::CodeFault;
+pub use graph::{Graph, Graphs, function_graphs};
+pub use net_model::CodeKind;
+pub use node::Unit;
+pub use reached::{Reached, reached_contents};
+pub use ways::{
+    Ways, branch_target, calls, is_call, is_indirect, is_link_passed, jump_target, load_of, onward,
+    returns, stops,
+};

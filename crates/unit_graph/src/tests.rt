@@ -1,0 +1,385 @@
+//! Graphs of short functions, with their onward units worked out by the MIPS I manual, and each order of faults.
+
+use crate::{
+    CodeFault, CodeKind, Graphs, Unit, Ways, branch_target, calls, content_at, function_graphs,
+    is_call, is_indirect, is_link_passed, is_transfer, jump_target, load_of, onward,
+    reached_contents, returns, stops,
+};
+use elf_mips::{Image, read_image};
+use net_model::{CodeUnit, Content};
+use std::alloc::{AllocError, Global};
+use std::test::Fail;
+
+/// Where the first segment begins.
+const START: u32 = 0x0040_0000;
+
+/// A segment: its address, its flags and its words.
+type Part<'a> = (u32, u32, &'a [u32]);
+
+/// jr $31, and a word of no instruction.
+const RETURN: u32 = 0x03E0_0008;
+
+const NONE: u32 = 0xFFFF_FFFF;
+
+/// What a node must say, but that it calls nothing.
+#[derive(Clone, Copy)]
+struct Row<'a> {
+    address: u32,
+    slot: bool,
+    returns: bool,
+    skips: bool,
+    load: Option<u32>,
+    onward: &'a [u32],
+}
+
+/// The row of a unit with a slot.
+fn slotted(address: u32, onward: &[u32]) -> Row {
+    Row {
+        address,
+        slot: true,
+        returns: false,
+        skips: false,
+        load: None,
+        onward,
+    }
+}
+
+/// The row of `jr $31`.
+fn leaving(address: u32) -> Row<'static> {
+    Row {
+        address,
+        slot: true,
+        returns: true,
+        skips: false,
+        load: None,
+        onward: &[],
+    }
+}
+
+fn push_words(file: &mut Vec<u8>, words: &[u32]) -> Result<(), AllocError> {
+    for word in words {
+        file.extend_from_slice(&word.to_be_bytes())?;
+    }
+    Ok(())
+}
+
+/// A big-endian MIPS I executable with these segments.
+fn file_of(alloc: Global, parts: &[Part]) -> Result<Vec<u8>, Fail> {
+    let count = u32::try_from(parts.len())?;
+    let mut file = Vec::new(alloc);
+    push_words(
+        &mut file,
+        &[0x7F45_4C46, 0x0102_0100, 0, 0, 0x0002_0008, 1, START, 52],
+    )?;
+    push_words(&mut file, &[0, 0, 0x0034_0020, (count << 16) | 0x28, 0])?;
+    let mut offset = count.wrapping_mul(32).wrapping_add(52);
+    for (address, flags, words) in parts {
+        let size = u32::try_from(words.len())?.wrapping_mul(4);
+        push_words(
+            &mut file,
+            &[1, offset, *address, *address, size, size, *flags, 4],
+        )?;
+        offset = offset.wrapping_add(size);
+    }
+    for (_, _, words) in parts {
+        push_words(&mut file, words)?;
+    }
+    Ok(file)
+}
+
+fn image_of(alloc: Global, parts: &[Part]) -> Result<Image, Fail> {
+    let file = file_of(alloc, parts)?;
+    if file.len() > 1_000_000 {
+        return Err("a long file".into());
+    }
+    Ok(read_image(alloc, &file)?)
+}
+
+/// The fault of the function at an address of an image of these segments, if it has one.
+fn fault_of(alloc: Global, parts: &[Part], entry: u32) -> Result<Option<CodeFault>, Fail> {
+    let image = image_of(alloc, parts)?;
+    Ok(function_graphs(alloc, &image, entry).err())
+}
+
+/// Whether a node is as the row says, and calls nothing.
+fn is_row(unit: &Unit, row: &Row) -> bool {
+    unit.address == row.address
+        && unit.slot == row.slot
+        && unit.returns == row.returns
+        && unit.skips == row.skips
+        && unit.load == row.load
+        && unit.onward.as_slice() == row.onward
+        && unit.calls.as_slice().is_empty()
+}
+
+/// Whether the only graph begins at the start and its nodes are these.
+fn is_graph(graphs: &Graphs, can_return: bool, rows: &[Row]) -> bool {
+    let [graph] = graphs.graphs.as_slice() else {
+        return false;
+    };
+    let units = graph.units.as_slice();
+    if graph.entry != START || graph.can_return != can_return || units.len() != rows.len() {
+        return false;
+    }
+    for (unit, row) in units.iter().zip(rows) {
+        if !is_row(unit, row) {
+            return false;
+        }
+    }
+    true
+}
+
+/// Whether the graph of these words, which have no fault, has these nodes.
+fn draws(alloc: Global, words: &[u32], can_return: bool, rows: &[Row]) -> Result<bool, Fail> {
+    let image = image_of(alloc, &[(START, 5, words)])?;
+    match function_graphs(alloc, &image, START) {
+        Ok(graphs) => Ok(is_graph(&graphs, can_return, rows)),
+        Err(_) => Err("a fault".into()),
+    }
+}
+
+#[test]
+fn answers_the_first_fault_of_the_code(rt: HostRuntime) -> Result<(), Fail> {
+    let alloc = rt.alloc();
+    let writable = CodeKind::WritableCode;
+    let unknown = CodeKind::UnknownWord;
+    // The words, the segment's flags, the entry, and the fault with its place.
+    let cases: [(&[u32], u32, u32, CodeKind, u32); 14] = [
+        // A word that may change isn't looked at further, but an address between words is unknown.
+        (&[NONE], 7, START, writable, START),
+        (&[RETURN, 0], 7, START, writable, START),
+        (&[RETURN, 0], 7, 0x0040_0002, unknown, 0x0040_0002),
+        (&[RETURN, 0], 5, 0x0040_0002, unknown, 0x0040_0002),
+        // A word of no instruction, one that can't be executed, and no word at all.
+        (&[NONE], 5, START, unknown, START),
+        (&[RETURN, 0], 4, START, unknown, START),
+        (&[], 5, START, unknown, START),
+        // A jump in a slot, and a slot behind the segment.
+        (
+            &[RETURN, RETURN],
+            5,
+            START,
+            CodeKind::TransferInSlot,
+            0x0040_0004,
+        ),
+        (&[RETURN], 5, START, unknown, 0x0040_0004),
+        // beq $0, $0 by -32768 words, and j to 0.
+        (&[0x1000_8000, 0], 5, START, unknown, 0x003E_0004),
+        (&[0x0800_0000, 0], 5, START, unknown, 0),
+        // A fall-through and a branch to the address behind the segment.
+        (&[0], 5, START, unknown, 0x0040_0004),
+        (&[0x1080_0003, 0, RETURN, 0], 5, START, unknown, 0x0040_0010),
+        // A jump in a slot, and an unknown word at a greater address, whose kind comes first.
+        (
+            &[0x1080_0004, 0, RETURN, RETURN, 0, NONE],
+            5,
+            START,
+            unknown,
+            0x0040_0014,
+        ),
+    ];
+    for (words, flags, entry, kind, address) in cases {
+        let fault = fault_of(alloc, &[(START, flags, words)], entry)?;
+        let first = Some(CodeFault::Bad { kind, address });
+        assert_eq!(rt; fault, first, "at {address}");
+    }
+    Ok(())
+}
+
+#[test]
+fn answers_the_least_address_of_a_kind(rt: HostRuntime) -> Result<(), Fail> {
+    let alloc = rt.alloc();
+    let kind = CodeKind::UnknownWord;
+    // beq $4, $0 forwards over one unknown word to another one.
+    let forwards: [u32; 5] = [0x1080_0003, 0, NONE, 0, NONE];
+    let fault = fault_of(alloc, &[(START, 5, &forwards)], START)?;
+    let address = 0x0040_0008;
+    assert_eq!(rt; fault, Some(CodeFault::Bad { kind, address }));
+    // beq $4, $0 backwards to one, before another one.
+    let backwards: [u32; 5] = [NONE, 0, 0x1080_FFFD, 0, NONE];
+    let fault = fault_of(alloc, &[(START, 5, &backwards)], 0x0040_0008)?;
+    let address = START;
+    assert_eq!(rt; fault, Some(CodeFault::Bad { kind, address }));
+    // A word behind the return isn't reached.
+    let fault = fault_of(alloc, &[(START, 5, &[RETURN, 0, NONE])], START)?;
+    assert_eq!(rt; fault, None);
+    // The slot of a jump lies in a segment that is writable.
+    let parts: [Part; 2] = [(START, 5, &[RETURN]), (0x0040_0004, 7, &[0])];
+    let fault = fault_of(alloc, &parts, START)?;
+    let kind = CodeKind::WritableCode;
+    let address = 0x0040_0004;
+    assert_eq!(rt; fault, Some(CodeFault::Bad { kind, address }));
+    Ok(())
+}
+
+#[test]
+fn draws_branches(rt: HostRuntime) -> Result<(), Fail> {
+    let alloc = rt.alloc();
+    // beq $4, $0 to its own slot, addiu $8, $8, 1, which is a unit too.
+    let own: [Row; 3] = [
+        slotted(START, &[0x0040_0004, 0x0040_0008]),
+        Row {
+            address: 0x0040_0004,
+            slot: false,
+            returns: false,
+            skips: false,
+            load: None,
+            onward: &[0x0040_0008],
+        },
+        leaving(0x0040_0008),
+    ];
+    assert!(rt; draws(alloc, &[0x1080_0000, 0x2508_0001, RETURN, 0], true, &own)?);
+    // beq $0, $0 goes to its target alone, over a unit, and bne $0, $0 behind its slot alone.
+    let far: [Row; 2] = [slotted(START, &[0x0040_000C]), leaving(0x0040_000C)];
+    assert!(rt; draws(alloc, &[0x1000_0002, 0, 0, RETURN, 0], true, &far)?);
+    let near: [Row; 2] = [slotted(START, &[0x0040_0008]), leaving(0x0040_0008)];
+    assert!(rt; draws(alloc, &[0x1400_0004, 0, RETURN, 0], true, &near)?);
+    // bne $4, $0 to the address behind its slot has one onward unit; j over a unit.
+    assert!(rt; draws(alloc, &[0x1480_0001, 0, RETURN, 0], true, &near)?);
+    assert!(rt; draws(alloc, &[0x0810_0003, 0, 0, RETURN, 0], true, &far)?);
+    // beq $0, $0 to itself.
+    assert!(rt; draws(alloc, &[0x1000_FFFF, 0], false, &[slotted(START, &[START])])?);
+    Ok(())
+}
+
+#[test]
+fn draws_calls_stops_and_loads(rt: HostRuntime) -> Result<(), Fail> {
+    let alloc = rt.alloc();
+    // Not followed: jal, jalr $31, $8, jr $8, bgezal $0 (always taken), and units with syscall or break in the slot.
+    let ends: [[u32; 2]; 6] = [
+        [0x0C10_0000, 0],
+        [0x0100_F809, 0],
+        [0x0100_0008, 0],
+        [0x0411_0003, 0],
+        [RETURN, 0x0000_000C],
+        [0x1000_FFFF, 0x0000_000D],
+    ];
+    for words in ends {
+        let first = words[0];
+        assert!(rt;
+            draws(alloc, &words, false, &[slotted(START, &[])])?,
+            "at {first}"
+        );
+    }
+    // bltzal $4 may call, and bltzal $0 never does; both may be not taken.
+    let mut skips = slotted(START, &[]);
+    skips.skips = true;
+    assert!(rt; draws(alloc, &[0x0490_0003, 0], false, &[skips])?);
+    skips.onward = &[0x0040_0008];
+    let passed: [Row; 2] = [skips, leaving(0x0040_0008)];
+    assert!(rt; draws(alloc, &[0x0410_0003, 0, RETURN, 0], true, &passed)?);
+    // break alone; lw $2, 0($4) before jr $31 and in its slot; sw $2, 0($4) doesn't load.
+    let mut plain = slotted(START, &[]);
+    plain.slot = false;
+    assert!(rt; draws(alloc, &[0x0000_000D], false, &[plain])?);
+    plain.load = Some(START);
+    plain.onward = &[0x0040_0004];
+    let mut last = leaving(0x0040_0004);
+    last.load = Some(0x0040_0008);
+    assert!(rt;
+        draws(
+            alloc,
+            &[0x8C82_0000, RETURN, 0x8C82_0000],
+            true,
+            &[plain, last]
+        )?
+    );
+    assert!(rt; draws(alloc, &[RETURN, 0xAC82_0000], true, &[leaving(START)])?);
+    Ok(())
+}
+
+#[test]
+fn follows_65000_units_in_a_line(rt: HostRuntime) -> Result<(), Fail> {
+    let alloc = rt.alloc();
+    let mut words: Vec<u32> = Vec::new(alloc);
+    for _ in 0..65_000 {
+        words.push(0x2508_0001)?;
+    }
+    words.push(RETURN)?;
+    words.push(0)?;
+    let image = image_of(alloc, &[(START, 5, words.as_slice())])?;
+    let reached = reached_contents(alloc, &image, START)?;
+    assert_eq!(rt; reached.as_slice().len(), 65_001);
+    let Ok(graphs) = function_graphs(alloc, &image, START) else {
+        return Err("a fault".into());
+    };
+    let [graph] = graphs.graphs.as_slice() else {
+        return Err("not one graph".into());
+    };
+    assert_eq!(rt; graph.units.as_slice().len(), 65_001);
+    let Some(last) = graph.units.as_slice().last() else {
+        return Err("no unit".into());
+    };
+    // 65,000 words of 4 bytes stand before it.
+    assert!(rt; is_row(last, &leaving(0x0043_F7A0)));
+    Ok(())
+}
+
+/// The unit of these two words at the start.
+fn unit_of(alloc: Global, word: u32, slot: u32) -> Result<CodeUnit, Fail> {
+    let image = image_of(alloc, &[(START, 5, &[word, slot])])?;
+    match content_at(&image, START) {
+        Content::Unit(unit) => Ok(unit),
+        Content::Fault { .. } => Err("no unit".into()),
+    }
+}
+
+/// Where the unit of these two words at the start goes on; its transfer and its slot don't load.
+fn ways_of(alloc: Global, word: u32, slot: u32) -> Result<Ways, Fail> {
+    let image = image_of(alloc, &[(START, 5, &[word, slot])])?;
+    match content_at(&image, START) {
+        Content::Unit(unit) if load_of(&unit, START).is_none() => Ok(onward(&unit, START)),
+        _ => Err("no unit that loads nothing".into()),
+    }
+}
+
+#[test]
+fn tells_what_a_unit_does(rt: HostRuntime) -> Result<(), Fail> {
+    let alloc = rt.alloc();
+    // The words of a unit; whether it calls, returns, or stops.
+    let cases: [([u32; 2], bool, bool, bool); 7] = [
+        ([0x0C10_0000, 0], true, false, false),
+        ([0x0100_F809, 0], true, false, false),
+        ([0x0491_0003, 0], true, false, false),
+        ([0x0410_0003, 0], false, false, false),
+        ([0x0C10_0000, 0x0000_000C], false, false, true),
+        ([RETURN, 0], false, true, false),
+        ([RETURN, 0x0000_000D], false, false, true),
+    ];
+    for (words, call, back, stop) in cases {
+        let first = words[0];
+        let unit = unit_of(alloc, first, words[1])?;
+        assert_eq!(rt; (calls(&unit), returns(&unit)), (call, back), "at {first}");
+        assert_eq!(rt; stops(&unit), stop, "at {first}");
+        assert!(rt; is_transfer(&unit.instr), "at {first}");
+    }
+    // jr $8 goes to recorded targets, jr $31 doesn't; bltzal $0 may be passed, jal may not.
+    let indirect = unit_of(alloc, 0x0100_0008, 0)?.instr;
+    let back = unit_of(alloc, RETURN, 0)?.instr;
+    assert!(rt; is_indirect(&indirect) && !is_indirect(&back));
+    let passed = unit_of(alloc, 0x0410_0003, 0)?.instr;
+    let call = unit_of(alloc, 0x0C10_0000, 0)?.instr;
+    assert!(rt; is_link_passed(&passed) && !is_link_passed(&call));
+    assert!(rt; is_call(&call) && !is_call(&passed));
+    Ok(())
+}
+
+#[test]
+fn tells_where_a_unit_goes(rt: HostRuntime) -> Result<(), Fail> {
+    let alloc = rt.alloc();
+    let cases: [(u32, Ways); 6] = [
+        (0x0C10_0000, Ways::Nowhere),
+        (0x0100_0008, Ways::Nowhere),
+        (RETURN, Ways::Nowhere),
+        (0x0810_0000, Ways::One(START)),
+        (0x0410_0003, Ways::One(0x0040_0008)),
+        (0x1080_FFFF, Ways::Two(START, 0x0040_0008)),
+    ];
+    for (word, ways) in cases {
+        assert_eq!(rt; ways_of(alloc, word, 0)?, ways, "at {word}");
+    }
+    // A branch by 3 words from its slot, and a jump to four times its index.
+    assert_eq!(rt; branch_target(START, 3), 0x0040_0010);
+    assert_eq!(rt; jump_target(START, 0x0010_0004), 0x0040_0010);
+    Ok(())
+}

@@ -1,0 +1,25 @@
+-- Each segment adds its own least address.
+use Rattle.std.proofs.Common.{◌≡◌, ◌+◌, List, [], ◌∷◌, ◌++◌, take, ap, sym, subst, ◌∙◌}
+use Rattle.std.proofs.lemmas.List.{take_all, take_more}
+use Rattle.elf_mips.specs.declared.segment.Segment.{Segment}
+use Rattle.wcet_engine.specs.Clash.{FindsLeast, IsClashOf, lesser_of}
+use Rattle.wcet_engine.proofs.LeastLemmas.{clash-push}
+use Rattle.wcet_engine.proofs.clash.clash_place.Goals as goal
+
+pub loop-segment-preserved : goal.loop-segment-preserved
+loop-segment-preserved c =
+    let segments = c.as_slice-segment-items.result.now in
+    let i = c.loop-segment.segment-index in
+    let more : take (i + 1) segments ≡ take i segments ++ c.segment-item.result ∷ [] =
+    take_more segments i c.segment-item.result c.loop-segment-test.true
+    ∙ ap (λ (s : Segment). take i segments ++ s ∷ []) (sym c.segment-item.is) in
+    rw c.lesser_of-least.ensures
+    (subst (λ (xs : List Segment). FindsLeast (IsClashOf xs c.args.profile.now) (lesser_of c.loop-segment.least c.shared_by.result)) (sym more)
+    (clash-push c.args.profile.now (take i segments) c.segment-item.result c.loop-segment.least c.shared_by.result
+    c.loop-segment.invariant c.shared_by.ensures))
+
+pub returns : goal.returns
+returns c =
+    let whole = take_all c.loop-segment.segment-index c.as_slice-segment-items.result.now c.loop-segment-test.false in
+    let segments = whole ∙ c.as_slice-segment-items.ensures in
+    subst (λ (xs : List Segment). FindsLeast (IsClashOf xs c.args.profile.now) c.loop-segment.least) segments c.loop-segment.invariant

@@ -1,0 +1,121 @@
+//! The top call on a file with sections: a counted loop of bound 5 with its record, whole, changed and cut.
+
+use crate::tests::{analysed, file_of, put};
+use crate::top::Status;
+use std::alloc::{AllocError, Global};
+use std::test::Fail;
+
+/// The file: headers, six words from offset 54, the record at 6C, the names at 7C, and three
+/// section headers at 8D, B5 and DD. (All offsets in hexadecimal.)
+fn loop_file(alloc: Global) -> Result<Vec<u8>, AllocError> {
+    let front = [
+        // The ELF header, with three sections from 8D on, the names in section 2.
+        0x7F45_4C46,
+        0x0102_0100,
+        0,
+        0,
+        0x0002_0008,
+        1,
+        0x0040_0000,
+        52,
+        0x8D,
+        0,
+        0x0034_0020,
+        0x0001_0028,
+        0x0003_0002,
+        // The program header.
+        1,
+        84,
+        0x0040_0000,
+        0x0040_0000,
+        24,
+        24,
+        5,
+        4,
+        // The words, and the record that bounds the loop by 5.
+        0x2408_0005,
+        0x2508_FFFF,
+        0x1500_FFFE,
+        0,
+        0x03E0_0008,
+        0,
+        1,
+        0x0040_0004,
+        5,
+        0,
+    ];
+    let back = [
+        0, 0, 0, 0, 0, 0, 0, 0, 0, 0, // an empty section header
+        1, 1, 0, 0, 0x6C, 16, 0, 0, 0, 0, // .wcet
+        7, 3, 0, 0, 0x7C, 17, 0, 0, 0, 0, // .shstrtab
+    ];
+    let mut bytes = Vec::new(alloc);
+    for word in front {
+        bytes.extend_from_slice(&u32::to_be_bytes(word))?;
+    }
+    bytes.extend_from_slice(b"\0.wcet\0.shstrtab\0".as_slice())?;
+    for word in back {
+        bytes.extend_from_slice(&u32::to_be_bytes(word))?;
+    }
+    Ok(bytes)
+}
+
+#[test]
+fn refuses_changed_sections(rt: HostRuntime) -> Result<(), Fail> {
+    let alloc = rt.alloc();
+    let file = loop_file(alloc)?;
+    assert_eq!(rt; file.len(), 261);
+    // From where on, to what, and the line. Loops themselves aren't analysed yet.
+    let rows: [(usize, &[u8], &str); 7] = [
+        (0, &[0x7F], "refused unbuilt 00400004\n"),
+        (0x6F, &[9], "refused bad-record 0000006C\n"),
+        (0x77, &[0], "refused bad-record 0000006C\n"),
+        (0xCC, &[15], "refused bad-section 000000B5\n"),
+        (0xBF, &[8], "refused bad-section 000000B5\n"),
+        (0xED, &[0xFF; 4], "refused bad-section 000000DD\n"),
+        (0x33, &[3], "refused bad-table 00000032\n"),
+    ];
+    for (place, bytes, line) in rows {
+        let mut changed = file.as_slice().to_vec(alloc)?;
+        put(&mut changed, place, bytes);
+        let got = analysed(alloc, &changed)?;
+        assert_eq!(rt; got.0, Status::Refused);
+        assert_eq!(rt; got.1.as_slice(), line.as_bytes());
+    }
+    Ok(())
+}
+
+#[test]
+fn refuses_each_cut(rt: HostRuntime) -> Result<(), Fail> {
+    let alloc = rt.alloc();
+    let file = loop_file(alloc)?;
+    if file.len() < 261 {
+        return Ok(());
+    }
+    // Below 52 bytes the length itself; then the program headers, and then the section headers, don't fit.
+    for length in 0..261usize {
+        let line = if length < 52 {
+            format!(in alloc; "refused short {length:08X}\n")?
+        } else if length < 84 {
+            String::from_str(alloc, "refused bad-table 0000001C\n")?
+        } else {
+            String::from_str(alloc, "refused bad-table 00000020\n")?
+        };
+        let got = analysed(alloc, &file[..length])?;
+        assert_eq!(rt; got.0, Status::Refused);
+        assert_eq!(rt; got.1.as_slice(), line.as_bytes());
+    }
+    // Without sections it is the segment that doesn't fit.
+    let plain = file_of(alloc, &[0x03E0_0008, 0])?;
+    if plain.len() < 92 {
+        return Ok(());
+    }
+    for length in 84..92usize {
+        let got = analysed(alloc, &plain[..length])?;
+        assert_eq!(rt;
+            got.1.as_slice(),
+            b"refused bad-segment 00000034\n".as_slice()
+        );
+    }
+    Ok(())
+}
