@@ -1,4 +1,3 @@
-pub mod NetReach
 pub mod Behind
 pub mod BuiltLemmas
 pub mod FaultLemmas
@@ -7,9 +6,11 @@ pub mod FirstBarred
 pub mod LeastLemmas
 pub mod NetBound
 pub mod NetLemmas
+pub mod NetReach
 pub mod PlainCosts
 pub mod Positions
 pub mod Ranked
+pub mod RingLemmas
 pub mod Rings
 pub mod RunPaths
 pub mod SameImage

@@ -10,7 +10,7 @@ use Rattle.wcet_engine.specs.Table.{AreRanks, IsOnRing, IsOpen, IsStep, IsTrail,
 use Rattle.wcet_engine.specs.Table.IsOpen.{first, next}
 
 -- A step leads to a position of the table.
-step_within : (table : List Steps) (from to : ℕ) → IsWithin table → IsStep table from to → to < length table
+pub step_within : (table : List Steps) (from to : ℕ) → IsWithin table → IsStep table from to → to < length table
 step_within table from to within step =
     All-contains (λ (x : ℕ). x < length table) (steps_in step.steps) to
     (subst (λ (s : Steps). All (λ (x : ℕ). x < length table) (steps_in s))

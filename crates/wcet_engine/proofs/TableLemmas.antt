@@ -287,7 +287,7 @@ built-followed image entry built a reached left =
     built a (record { met = reached-met image entry built a reached; left = inl left })
 
 -- A trail with one more step.
-trail-more : (table : List Steps) (more : List ℕ) (from mid to : ℕ) → IsTrail table from more mid → IsStep table mid to →
+pub trail-more : (table : List Steps) (more : List ℕ) (from mid to : ℕ) → IsTrail table from more mid → IsStep table mid to →
     IsTrail table from (more ++ to ∷ []) to
 trail-more table [] from mid to trail step = (subst (λ (n : ℕ). IsStep table n to) (sym trail) step, refl)
 trail-more table (later ∷ more) from mid to trail step = (trail.0, trail-more table more later mid to trail.1 step)

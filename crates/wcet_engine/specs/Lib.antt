@@ -10,6 +10,7 @@ pub mod Outcomes
 pub mod Prices
 pub mod Ranks
 pub mod Records
+pub mod Rings
 pub mod Refusals
 pub mod Rows
 pub mod Search

@@ -16,6 +16,7 @@ mod order_tests;
 mod price;
 mod ranks;
 mod refusal;
+mod ring_marks;
 mod search;
 #[cfg(test)]
 mod section_tests;

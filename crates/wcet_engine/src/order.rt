@@ -4,7 +4,8 @@ ghost use Rattle.std.specs.Prelude.{◌≡◌, ℕ, ◌<◌, ◌^◌, ◌↔◌,
 ghost use Rattle.wcet_engine.specs.Table.{IsBarred, IsOnRing, IsWithin};
 
 use crate::ranks::ranks_of;
-use crate::search::{is_on_ring, see, see_steps, steps_at};
+use crate::ring_marks::rings_of;
+use crate::search::{see, see_steps, steps_at};
 use crate::table::Steps;
 use std::alloc::{AllocError, Global};
 
@@ -17,29 +18,17 @@ pub enum Order {
     Barred(usize),
 }
 
+ghost use Rattle.wcet_engine.specs.Rings.{AreRings};
 ghost use Rattle.wcet_engine.specs.Order.{AreReachedFrom, IsFirstOrNone, IsOrder, LooksAt, lesser_of};
 
-/// Whether a position is barred; `ringed` says whether the table may have a ring.
-fn is_barred(
-    alloc: Global,
-    table: &[Steps],
-    marks: &[bool],
-    position: usize,
-    ringed: bool,
-) -> Result<bool, AllocError>
-    requires within { IsWithin table.now }
+/// Whether a position is barred: marked, or on a ring.
+fn is_barred(table: &[Steps], marks: &[bool], rings: &[bool], position: usize) -> bool
     requires marked { length marks.now ≡ length table.now }
+    requires ringed { AreRings table.now rings.now }
     requires there { position < length table.now }
-    requires ringless { ringed ≡ false → (other : ℕ) → IsOnRing table.now other → ⊥ }
-    ensures { IfOk result (λ barred. IsTrue barred ↔ IsBarred table.now marks.now position) }
+    ensures { IsTrue result ↔ IsBarred table.now marks.now position }
 {
-    if marks[position] {
-        return Ok(true);
-    }
-    if !ringed {
-        return Ok(false);
-    }
-    is_on_ring(alloc, table, position)
+    marks[position] || rings[position]
 }
 
 /// The lesser one of a position and the least one found before, if any.
@@ -80,14 +69,14 @@ fn find_barred(
     alloc: Global,
     table: &[Steps],
     marks: &[bool],
+    rings: &[bool],
     entry: usize,
-    ringed: bool,
     seen: &mut [bool],
 ) -> Result<Option<usize>, AllocError>
     requires within { IsWithin table.now }
     requires marked { length marks.now ≡ length table.now }
     requires there { entry < length table.now }
-    requires ringless { ringed ≡ false → (other : ℕ) → IsOnRing table.now other → ⊥ }
+    requires ringed { AreRings table.now rings.now }
     requires unseen { seen.old ≡ replicate (length table.now) false }
     ensures { IfOk result (IsFirstOrNone table.now marks.now entry) }
 {
@@ -95,37 +84,34 @@ fn find_barred(
     let mut least = None;
     see(entry, seen, &mut waiting)?;
     while let Some(position) = waiting.pop() {
-        let barred = is_barred(alloc, table, marks, position, ringed)?;
+        let barred = is_barred(table, marks, rings, position);
         look_at(table, position, barred, seen, &mut waiting, &mut least)?;
     }
     Ok(least)
 }
 
-/// The first barred position on the trails from the entry, if any.
-///
-/// Each position is looked at once. Where the table may have a ring, each look takes time in proportion
-/// to the table: positions times steps at most, and only for a table that isn't built.
+/// The first barred position on the trails from the entry, if any. Each position is looked at once.
 fn first_barred(
     alloc: Global,
     table: &[Steps],
     marks: &[bool],
+    rings: &[bool],
     entry: usize,
-    ringed: bool,
 ) -> Result<Option<usize>, AllocError>
     requires within { IsWithin table.now }
     requires marked { length marks.now ≡ length table.now }
+    requires ringed { AreRings table.now rings.now }
     requires there { entry < length table.now }
-    requires ringless { ringed ≡ false → (other : ℕ) → IsOnRing table.now other → ⊥ }
     ensures { IfOk result (IsFirstOrNone table.now marks.now entry) }
 {
     let mut seen = vec![in alloc; false; table.len()]?;
-    find_barred(alloc, table, marks, entry, ringed, &mut seen)
+    find_barred(alloc, table, marks, rings, entry, &mut seen)
 }
 
 /// Ranks for the positions, or the first barred position on the trails from the entry, which lead to all
 /// positions.
 ///
-/// Without a ring the time is in proportion to the table.
+/// The time is in proportion to the table.
 pub fn order_of(
     alloc: Global,
     table: &[Steps],
@@ -139,13 +125,11 @@ pub fn order_of(
     requires reached { AreReachedFrom table.now entry }
     ensures { IfOk result (IsOrder table.now marks.now entry) }
 {
-    match ranks_of(alloc, table)? {
-        Some(ranks) => match first_barred(alloc, table, marks, entry, false)? {
-            Some(position) => Ok(Order::Barred(position)),
-            None => Ok(Order::Ranked(ranks)),
-        },
-        None => match first_barred(alloc, table, marks, entry, true)? {
-            Some(position) => Ok(Order::Barred(position)),
+    let rings = rings_of(alloc, table)?;
+    match first_barred(alloc, table, marks, &rings, entry)? {
+        Some(position) => Ok(Order::Barred(position)),
+        None => match ranks_of(alloc, table)? {
+            Some(ranks) => Ok(Order::Ranked(ranks)),
             None => unreachable!(),
         },
     }

@@ -1,11 +1,12 @@
 //! The order of small tables of steps, or their first barred position.
 
-ghost use Rattle.std.specs.Prelude.{◌≡◌, ℕ, ◌<◌, [], All, IfOk, IsTrue, Some, false, length, replicate, slice_get, true};
+ghost use Rattle.std.specs.Prelude.{◌≡◌, ℕ, ◌<◌, [], All, IfOk, IsTrue, OnOk, Some, false, length, replicate, slice_get, true};
 ghost use Rattle.wcet_engine.specs.Order.{AreReachedFrom};
+ghost use Rattle.wcet_engine.specs.Search.{SeesBehind};
 ghost use Rattle.wcet_engine.specs.Table.{IsWithin, listed, steps_in};
 
 use crate::order::{Order, order_of};
-use crate::search::see_behind;
+use crate::search::{see_steps, steps_at};
 use crate::table::Steps;
 use std::alloc::{AllocError, Global};
 use std::test::Fail;
@@ -72,6 +73,28 @@ fn are_seen(seen: &[bool], entry: usize) -> bool
         }
     }
     true
+}
+
+/// Sees all that lies behind a position; nothing is seen yet, and nothing waits.
+///
+/// Each position waits once, so that the time is in proportion to the table.
+fn see_behind(
+    table: &[Steps],
+    position: usize,
+    seen: &mut [bool],
+    waiting: &mut Vec<usize>,
+) -> Result<(), AllocError>
+    requires within { IsWithin table.now }
+    requires there { position < length table.now }
+    requires unseen { seen.old ≡ replicate (length table.now) false }
+    requires empty { waiting.old.items ≡ [] }
+    ensures { OnOk result (SeesBehind table.now position seen.new) }
+{
+    see_steps(steps_at(table, position), seen, waiting)?;
+    while let Some(next) = waiting.pop() {
+        see_steps(steps_at(table, next), seen, waiting)?;
+    }
+    Ok(())
 }
 
 /// Whether all positions but this one lie behind it; nothing is seen yet.

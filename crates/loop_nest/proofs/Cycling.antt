@@ -1,0 +1,146 @@
+-- The steps that are no back arcs, and cycles of them.
+use Rattle.std.proofs.Common.{◌≡◌, ℕ, ◌+◌, ◌<◌, ◌≤◌, List, [], ◌∷◌, ◌++◌, take, length, length-append, get_or, sym, subst, ◌∙◌, Some, arith, inl, inr, ◌⊎◌}
+use Rattle.std.specs.Prelude.{Contains, slice_get}
+use Rattle.std.proofs.lemmas.Bool.{cases_eq}
+use Rattle.std.proofs.lemmas.List.{take_all, take_more}
+use Rattle.std.proofs.lemmas.List.Elements.{Contains-append_left, Contains-push, Contains-push_cases}
+use Rattle.loop_nest.specs.Arcs.{Crosses, IsBack}
+use Rattle.loop_nest.specs.Cycles.{AreForward, IsCyclic, IsForward}
+use Rattle.loop_nest.specs.Ranks.{AreRanks, IsFalling, number_of}
+use Rattle.loop_nest.specs.Table.{IsMet, IsStep, IsWithin}
+use Rattle.loop_nest.proofs.Meeting.{a_step, step_among}
+use Rattle.loop_nest.proofs.Places.{place_cases, place_last, place_left}
+use Rattle.loop_nest.proofs.Removing.{falling_met}
+use Rattle.loop_nest.proofs.Reversing.{from_within, step_within, within_by}
+use Rattle.loop_nest.proofs.Seen.{in_none}
+
+pub forward_none : (sources : List (List ℕ)) (from : ℕ) (list : List ℕ) → list ≡ [] → AreForward sources from [] list
+forward_none sources from list e x = (
+  λ c. absurd (in_none x (subst (λ (xs : List ℕ). Contains xs x) e c)),
+  λ (c, free). absurd (in_none x c),
+)
+
+forward_push : (sources : List (List ℕ)) (from : ℕ) (steps list : List ℕ) (one : ℕ) →
+    AreForward sources from steps list → (IsStep sources one from → ⊥) →
+    AreForward sources from (steps ++ one ∷ []) (list ++ one ∷ [])
+forward_push sources from steps list one are free x = (
+  λ c. elim (Contains-push_cases list one x c) as (λ _. Contains (steps ++ one ∷ []) x × (IsStep sources x from → ⊥)) [
+    | inl p ↦ let (among, other) = (are x).0 p in (Contains-append_left steps (one ∷ []) x among, other)
+    | inr e ↦ subst (λ (at : ℕ). Contains (steps ++ one ∷ []) at × (IsStep sources at from → ⊥)) e
+        (Contains-push steps one, free)
+  ],
+  λ (c, other). elim (Contains-push_cases steps one x c) as (λ _. Contains (list ++ one ∷ []) x) [
+    | inl p ↦ Contains-append_left list (one ∷ []) x ((are x).1 (p, other))
+    | inr e ↦ subst (Contains (list ++ one ∷ [])) e (Contains-push list one)
+  ],
+)
+
+forward_skip : (sources : List (List ℕ)) (from : ℕ) (steps list : List ℕ) (one : ℕ) →
+    AreForward sources from steps list → IsStep sources one from → AreForward sources from (steps ++ one ∷ []) list
+forward_skip sources from steps list one are there x = (
+  λ c. let (among, other) = (are x).0 c in (Contains-append_left steps (one ∷ []) x among, other),
+  λ (c, other). elim (Contains-push_cases steps one x c) as (λ _. Contains list x) [
+    | inl p ↦ (are x).1 (p, other)
+    | inr e ↦ absurd (other (subst (λ (at : ℕ). IsStep sources at from) e there))
+  ],
+)
+
+pub forward_more : (sources : List (List ℕ)) (from : ℕ) (xs : List ℕ) (i : ℕ) (list : List ℕ) → i < length xs →
+    AreForward sources from (take i xs) list → (IsStep sources (get_or xs i 0) from → ⊥) →
+    AreForward sources from (take (i + 1) xs) (list ++ get_or xs i 0 ∷ [])
+forward_more sources from xs i list inside are free =
+    subst (λ (ys : List ℕ). AreForward sources from ys (list ++ get_or xs i 0 ∷ [])) (sym (take_more xs i 0 inside))
+    (forward_push sources from (take i xs) list (get_or xs i 0) are free)
+
+pub forward_same : (sources : List (List ℕ)) (from : ℕ) (xs : List ℕ) (i : ℕ) (list : List ℕ) → i < length xs →
+    AreForward sources from (take i xs) list → IsStep sources (get_or xs i 0) from →
+    AreForward sources from (take (i + 1) xs) list
+forward_same sources from xs i list inside are there =
+    subst (λ (ys : List ℕ). AreForward sources from ys list) (sym (take_more xs i 0 inside))
+    (forward_skip sources from (take i xs) list (get_or xs i 0) are there)
+
+pub forward_end : (sources : List (List ℕ)) (from : ℕ) (xs : List ℕ) (i : ℕ) (list : List ℕ) → length xs ≤ i →
+    AreForward sources from (take i xs) list → AreForward sources from xs list
+forward_end sources from xs i list end are =
+    subst (λ (ys : List ℕ). AreForward sources from ys list) (take_all i xs end) are
+
+-- The table of the steps from the first positions that are no back arcs.
+pub record IsForwarding (table sources : List (List ℕ)) (done : ℕ) (forward : List (List ℕ)) : Type 0 where
+  pub count : length forward ≡ done
+  pub sound : (from to : ℕ) → IsStep forward from to → IsStep table from to × (IsStep sources to from → ⊥)
+  pub whole : (from to : ℕ) → from < done → IsStep table from to → (IsStep sources to from → ⊥) → IsStep forward from to
+
+pub forwarding_more : (table sources : List (List ℕ)) (done : ℕ) (forward : List (List ℕ)) (steps list : List ℕ) →
+    IsForwarding table sources done forward → slice_get table done ≡ Some steps → AreForward sources done steps list →
+    IsForwarding table sources (done + 1) (forward ++ list ∷ [])
+forwarding_more table sources done forward steps list ahead there are = record {
+  count = omega (arith, ahead.count, length-append forward (list ∷ []));
+  sound = λ from to step. sound_by from to step (place_cases forward list from step.steps step.there);
+  whole = λ from to less step free. elim (cases_eq from done) as (λ _. IsStep later from to) [
+    | inl e ↦ subst (λ (at : ℕ). IsStep later at to) (sym e)
+        (a_step later done to list at_done ((are to).1 (
+          step_among table done to steps there (subst (λ (at : ℕ). IsStep table at to) e step),
+          subst (λ (at : ℕ). IsStep sources to at → ⊥) e free,
+        )))
+    | inr differ ↦ let old : IsStep forward from to = ahead.whole from to (omega (arith, less, differ)) step free in
+        a_step later from to old.steps (place_left forward (list ∷ []) from old.steps old.there) old.goes
+  ];
+}
+  where
+    later : List (List ℕ)
+    later = forward ++ list ∷ []
+
+    at_done : slice_get later done ≡ Some list
+    at_done = subst (λ (at : ℕ). slice_get later at ≡ Some list) ahead.count (place_last forward list)
+
+    sound_by : (from to : ℕ) (step : IsStep later from to) →
+        (slice_get forward from ≡ Some step.steps) ⊎ ((from ≡ length forward) × (list ≡ step.steps)) →
+        IsStep table from to × (IsStep sources to from → ⊥)
+    sound_by from to step (inl old) = ahead.sound from to (a_step forward from to step.steps old step.goes)
+    sound_by from to step (inr both) =
+        let (among, free) = (are to).0 (subst (λ (xs : List ℕ). Contains xs to) (sym both.1) step.goes) in
+        subst (λ (at : ℕ). IsStep table at to × (IsStep sources to at → ⊥)) (sym (both.0 ∙ ahead.count))
+        (a_step table done to steps there among, free)
+
+pub forwarding_end : (table sources : List (List ℕ)) (done : ℕ) (forward : List (List ℕ)) → done ≡ length table →
+    IsForwarding table sources done forward → IsForward table sources forward
+forwarding_end table sources done forward end ahead = record {
+  count = ahead.count ∙ end;
+  sound = λ from to step. (ahead.sound from to step).0;
+  apart = λ from to step. (ahead.sound from to step).1;
+  whole = λ from to step free. ahead.whole from to (omega (arith, end, from_within table from to step)) step free;
+}
+
+pub forward_within : (table sources forward : List (List ℕ)) → IsWithin table → IsForward table sources forward →
+    IsWithin forward
+forward_within table sources forward within is =
+    within_by forward (length forward)
+    (λ from to step. omega (arith, is.count, step_within table within from to (is.sound from to step)))
+
+-- A step that crosses closes a cycle without back arcs.
+pub crossed_cyclic : (table sources forward : List (List ℕ)) (entry : ℕ) (ranks : List ℕ) (from header : ℕ) →
+    IsWithin table → AreRanks table entry ranks → IsForward table sources forward →
+    ((from header : ℕ) → IsStep sources header from → IsBack table entry from header) →
+    Crosses table entry ranks from header → IsCyclic forward from
+crossed_cyclic table sources forward entry ranks from header within are is sound crosses =
+    record { steps = closing.steps; there = closing.there; met = met from (falling (are.settled from header (from_within table from header crosses.goes) crosses.goes).1) }
+  where
+    free : (x y : ℕ) → IsMet table (entry ∷ []) y x → IsStep sources y x → ⊥
+    free x y met back = (sound x y back).behind met
+
+    closing : IsStep forward from header
+    closing = is.whole from header crosses.goes (free from header crosses.met)
+
+    falling : (number_of ranks header < number_of ranks from) ⊎ IsFalling table ranks header from → IsFalling table ranks header from
+    falling (inl less) = absurd (omega (arith, less, crosses.retreats))
+    falling (inr trail) = trail
+
+    inner : (x y : ℕ) → IsStep table x y → y ≡ length forward → ⊥
+    inner x y step e = omega (arith, e, is.count, step_within table within x y step)
+
+    met : (x : ℕ) → IsFalling table ranks header x → IsMet forward closing.steps (length forward) x
+    met _ IsFalling.begins = IsMet.begins header closing.goes (inner from header crosses.goes)
+    met _ (IsFalling.goes x y trail step falls) =
+        IsMet.goes x y (met x trail)
+        (is.whole x y step (free x y (falling_met table entry ranks x y are step falls.1)))
+        (inner x y step)

@@ -1,0 +1,28 @@
+-- Laws of loops: what follows from the definitions of bodies and back arcs.
+pub mod Dominance
+pub mod Laminar
+pub mod ForwardWays
+pub mod HeaderRank
+pub mod Innermost
+pub mod Arcs
+-- The functions' own lemmas.
+mod Bounding
+mod Bridge
+mod Cycling
+mod Holding
+mod Leaving
+mod Collecting
+mod Irreducibles
+mod Meeting
+mod Nesting
+mod Places
+mod Planning
+mod Positions
+mod Ranking
+mod Regular
+mod Removing
+mod Returning
+mod Reversing
+mod Ringing
+mod Seen
+mod Walking

@@ -1,0 +1,62 @@
+-- The bodies of headers, and which of the headers is the innermost one, by the positions.
+use Rattle.std.specs.Prelude.{◌≡◌, ℕ, ◌<◌, ◌≤◌, ◌⊎◌, List, length, Contains, Option, Some, None, Bool, slice_get}
+use Rattle.loop_nest.specs.Ranks.{number_of}
+use Rattle.loop_nest.specs.Search.{IsSeen}
+use Rattle.loop_nest.specs.Table.{IsMet}
+
+-- The body of a header: itself, and what is met from the sources of its back arcs backwards, without it.
+pub record IsBody (reverse : List (List ℕ)) (sources : List ℕ) (header : ℕ) (inside : List Bool) : Type 0 where
+  pub count : length inside ≡ length reverse
+  pub sound : (x : ℕ) → IsSeen inside x → (x ≡ header) ⊎ IsMet reverse sources header x
+  pub head : IsSeen inside header
+  pub whole : (x : ℕ) → IsMet reverse sources header x → IsSeen inside x
+
+-- A header, with some back arc, holds a position.
+pub record Holds (reverse sources : List (List ℕ)) (header position : ℕ) : Type 0 where
+  pub from : List ℕ
+  pub there : slice_get sources header ≡ Some from
+  pub one : ℕ
+  pub some : Contains from one
+  pub held : (position ≡ header) ⊎ IsMet reverse from header position
+
+-- Of the first headers that hold a position, the one with the least rank, or none.
+abbrev pub IsInner : (reverse sources : List (List ℕ)) → (ranks : List ℕ) → (done position : ℕ) → Option ℕ → Type 0
+IsInner reverse sources ranks done position None =
+    (header : ℕ) → header < done → Holds reverse sources header position → ⊥
+IsInner reverse sources ranks done position (Some header) =
+    (header < done) × Holds reverse sources header position
+    × ((other : ℕ) → other < done → Holds reverse sources other position → number_of ranks header ≤ number_of ranks other)
+
+-- For each position the innermost of the first headers.
+pub record AreInner (reverse sources : List (List ℕ)) (ranks : List ℕ) (done : ℕ) (innermost : List (Option ℕ)) : Type 0 where
+  pub count : length innermost ≡ length reverse
+  pub each : (position : ℕ) (found : Option ℕ) → slice_get innermost position ≡ Some found →
+      IsInner reverse sources ranks done position found
+
+-- The one of two headers with the lesser rank.
+abbrev pub IsLesser : (ranks : List ℕ) → (header : ℕ) → Option ℕ → Option ℕ → Type 0
+IsLesser ranks header None found = found ≡ Some header
+IsLesser ranks header (Some other) found =
+    ((found ≡ Some other) × (number_of ranks other ≤ number_of ranks header))
+    ⊎ ((found ≡ Some header) × (number_of ranks header ≤ number_of ranks other))
+
+-- What stands at a position once one more header has noted itself at those of its body.
+pub record IsNoted (inside : List Bool) (ranks : List ℕ) (header position : ℕ) (before found : Option ℕ) : Type 0 where
+  pub held : IsSeen inside position → IsLesser ranks header before found
+  pub other : (IsSeen inside position → ⊥) → before ≡ found
+
+pub record AreNoted (inside : List Bool) (ranks : List ℕ) (header : ℕ) (before later : List (Option ℕ)) : Type 0 where
+  pub count : length later ≡ length before
+  pub each : (position : ℕ) (found : Option ℕ) → slice_get later position ≡ Some found →
+      (old : Option ℕ) × (slice_get before position ≡ Some old) × IsNoted inside ranks header position old found
+
+-- Each position up to one was noted, and the others stay.
+pub record IsNoting (inside : List Bool) (ranks : List ℕ) (header done : ℕ) (before later : List (Option ℕ)) : Type 0 where
+  pub count : length later ≡ length before
+  pub each : (position : ℕ) (found : Option ℕ) → position < done → slice_get later position ≡ Some found →
+      (old : Option ℕ) × (slice_get before position ≡ Some old) × IsNoted inside ranks header position old found
+  pub kept : (position : ℕ) → done ≤ position → slice_get later position ≡ slice_get before position
+
+-- Each header that is named is a position.
+abbrev pub AreBelow : ℕ → List (Option ℕ) → Type 0
+AreBelow n innermost = (position header : ℕ) → slice_get innermost position ≡ Some (Some header) → header < n

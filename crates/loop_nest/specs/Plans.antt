@@ -1,0 +1,63 @@
+-- A function's units by their positions, and what is found of its loops.
+use Rattle.std.specs.Prelude.{◌≡◌, ℕ, ◌<◌, List, length, map, AllPairs, Option, Some, true, slice_get}
+use Rattle.elf_mips.specs.declared.image.Image.{Image}
+use Rattle.elf_mips.specs.declared.mark.Mark.{Mark}
+use Rattle.unit_graph.specs.declared.graph.Graph.{Graph}
+use Rattle.unit_graph.specs.declared.node.Unit.{Unit as Node}
+use Rattle.loop_nest.specs.declared.find.Answer.{Answer}
+use Rattle.loop_nest.specs.declared.find.Answer.TheVariants as answer
+use Rattle.loop_nest.specs.declared.listing.Listed.{Listed as List_of_loops}
+use Rattle.loop_nest.specs.declared.plan.Found.{Found}
+use Rattle.loop_nest.specs.declared.plan.Found.TheVariants.{Irregular, Regular}
+use Rattle.loop_nest.specs.declared.plan.Plan.{Plan}
+use Rattle.loop_nest.specs.declared.removal.Backs.{Backs}
+use Rattle.loop_nest.specs.Arcs.{AreBacks}
+use Rattle.loop_nest.specs.Bodies.{AreInner}
+use Rattle.loop_nest.specs.Bounds.{AreBounds}
+use Rattle.loop_nest.specs.Cycles.{IsFirstIrregular}
+use Rattle.loop_nest.specs.Listing.{IsListed}
+use Rattle.loop_nest.specs.Nests.{IsNest, TellsKind}
+use Rattle.loop_nest.specs.Ranks.{AreRanks}
+use Rattle.loop_nest.specs.Table.{AreMet, IsReverse, IsTableOf, IsWithin}
+
+-- The plan of a graph.
+pub record IsPlan (graph : Graph) (plan : Plan) : Type 0 where
+  pub are : plan.addresses.items ≡ map (λ (node : Node). node.address) graph.units
+  pub rising : AllPairs (λ (a b : ℕ). a < b) plan.addresses.items
+  pub follows : IsTableOf plan.addresses.items graph.units plan.table.items
+  pub count : length plan.table.items ≡ length plan.addresses.items
+  pub within : IsWithin plan.table.items
+  pub reversed : IsReverse plan.table.items plan.reverse.items
+  pub behind : IsWithin plan.reverse.items
+  pub begins : slice_get plan.addresses.items plan.entry ≡ Some graph.entry
+  pub met : AreMet plan.table.items plan.entry
+
+-- Some step that isn't a back arc closes a cycle: the least position of such.
+pub record IsIrregularAt (plan : Plan) (position : ℕ) : Type 0 where
+  pub ranks : List ℕ
+  pub backs : Backs
+  pub ranked : AreRanks plan.table.items plan.entry ranks
+  pub are : AreBacks plan.table.items plan.entry ranks backs
+  pub first : IsFirstIrregular plan.table.items backs.sources.items (Some position)
+
+-- All steps but the back arcs go to lesser ranks, and the loops are listed.
+pub record AreRegular (graph : Graph) (plan : Plan) (marks : List Mark) (loops : List_of_loops) : Type 0 where
+  pub ranks : List ℕ
+  pub backs : Backs
+  pub innermost : List (Option ℕ)
+  pub bounds : List (Option ℕ)
+  pub ranked : AreRanks plan.table.items plan.entry ranks
+  pub are : AreBacks plan.table.items plan.entry ranks backs
+  pub clean : backs.clean ≡ true
+  pub inner : AreInner plan.reverse.items backs.sources.items ranks (length plan.reverse.items) innermost
+  pub bounded : AreBounds graph.units innermost marks bounds
+  pub listed : IsListed plan.addresses.items plan.reverse.items backs.sources.items bounds loops
+
+abbrev pub IsFound : Graph → Plan → (marks : List Mark) → Found → Type 0
+IsFound graph plan marks (Irregular position) = IsIrregularAt plan position
+IsFound graph plan marks (Regular listed) = AreRegular graph plan marks listed
+
+-- The loops of a function, or their fault.
+abbrev pub IsAnswer : Image → (entry : ℕ) → Answer → Type 0
+IsAnswer image entry (answer.Loops loops) = IsNest image entry loops
+IsAnswer image entry (answer.Fault kind address) = TellsKind image entry kind address

@@ -1,0 +1,115 @@
+//! The units of a function by their positions, and what is found of its loops.
+
+ghost use Rattle.std.specs.Prelude.{◌≡◌, ℕ, true, IfOk};
+ghost use Rattle.elf_mips.specs.declared.image.Image.{Image};
+ghost use Rattle.unit_graph.specs.Graphs.{IsGraph};
+
+use crate::bodies::innermost_of;
+use crate::bounds::bounds_of;
+use crate::irreducible::first_irregular;
+use crate::listing::{Listed, list_loops};
+use crate::ranks::ranks_of;
+use crate::removal::{Backs, backs_of};
+use crate::table::{addresses_of, position_of, reverse_of, table_of};
+use elf_mips::Mark;
+use std::alloc::{AllocError, Global};
+use unit_graph::Graph;
+use wcet_io::List;
+
+/// The units of a function by their positions in its graph, and how they follow one another.
+#[derive(Debug, Drop)]
+pub struct Plan {
+    /// The addresses of the units, rising.
+    pub addresses: Vec<u32>,
+    /// For each position those that may follow it.
+    pub table: Vec<List<usize>>,
+    /// For each position those that it may follow.
+    pub reverse: Vec<List<usize>>,
+    /// The position of the first unit.
+    pub entry: usize,
+}
+
+/// What is found of the loops of a function.
+#[derive(Debug, Drop)]
+pub enum Found {
+    /// The least position on a cycle without back arcs.
+    Irregular(usize),
+    /// Each cycle has a back arc.
+    Regular(Listed),
+}
+
+ghost use Rattle.loop_nest.specs.Arcs.{AreBacks};
+ghost use Rattle.loop_nest.specs.Plans.{AreRegular, IsFound, IsPlan};
+ghost use Rattle.loop_nest.specs.Ranks.{AreRanks};
+ghost use Rattle.loop_nest.specs.Table.{IsWithin};
+
+/// The plan of a graph, in time in proportion to its arcs but for a search of the addresses for each.
+pub fn plan_of(alloc: Global, graph: &Graph) -> Result<Plan, AllocError>
+    requires { (image : Image) × (entry : ℕ) × IsGraph image entry graph.now }
+    ensures { IfOk result (IsPlan graph.now) }
+{
+    let units = graph.units.as_slice();
+    let addresses = addresses_of(alloc, units)?;
+    let Some(entry) = position_of(&addresses, graph.entry) else {
+        unreachable!();
+    };
+    let table = table_of(alloc, &addresses, units)?;
+    let reverse = reverse_of(alloc, &table)?;
+    Ok(Plan {
+        addresses,
+        table,
+        reverse,
+        entry,
+    })
+}
+
+/// The loops of a graph whose back arcs are known.
+fn regular_loops(
+    alloc: Global,
+    graph: &Graph,
+    plan: &Plan,
+    ranks: &[usize],
+    backs: &Backs,
+    marks: &[Mark],
+) -> Result<Listed, AllocError>
+    requires plan { IsPlan graph.now plan.now }
+    requires ranks { AreRanks plan.now.table.items plan.now.entry ranks.now }
+    requires backs { AreBacks plan.now.table.items plan.now.entry ranks.now backs.now }
+    requires clean { backs.now.clean ≡ true }
+    requires sources { IsWithin backs.now.sources.items }
+    ensures { IfOk result (AreRegular graph.now plan.now marks.now) }
+{
+    let units = graph.units.as_slice();
+    let innermost = innermost_of(alloc, &plan.reverse, &backs.sources, ranks)?;
+    let bounds = bounds_of(alloc, units, &plan.addresses, &innermost, marks)?;
+    let listed = list_loops(
+        alloc,
+        &plan.addresses,
+        &plan.reverse,
+        &backs.sources,
+        &bounds,
+    )?;
+    Ok(listed)
+}
+
+/// What is found of the loops of a graph.
+pub fn find_in(
+    alloc: Global,
+    graph: &Graph,
+    plan: &Plan,
+    marks: &[Mark],
+) -> Result<Found, AllocError>
+    requires { IsPlan graph.now plan.now }
+    ensures { IfOk result (IsFound graph.now plan.now marks.now) }
+{
+    let ranks = ranks_of(alloc, &plan.table, plan.entry)?;
+    let backs = backs_of(alloc, &plan.table, &plan.reverse, &ranks, plan.entry)?;
+    if backs.clean {
+        let listed = regular_loops(alloc, graph, plan, &ranks, &backs, marks)?;
+        return Ok(Found::Regular(listed));
+    }
+    match first_irregular(alloc, &plan.table, &backs.sources)? {
+        Some(position) => Ok(Found::Irregular(position)),
+        None => unreachable!(),
+    }
+}
