@@ -100,14 +100,13 @@ fn prints_the_first_fault(rt: HostRuntime) -> Result<(), Fail> {
     let file = file_of(alloc, &[0x03E0_0008, 0])?;
     assert_eq!(rt; file.len(), 92);
     // The same file with some bytes changed: from where on, to what, and the line.
-    let rows: [(usize, &[u8], &str); 11] = [
+    let rows: [(usize, &[u8], &str); 10] = [
         (0, &[0], "refused not-elf 00000000\n"),
         (5, &[1], "refused not-this-kind 00000005\n"),
         (0x23, &[1], "refused bad-table 00000030\n"),
         (0x2B, &[31], "refused bad-table 0000002A\n"),
         (0x2C, &[0xFF, 0xFF], "refused bad-table 0000001C\n"),
         (0x30, &[1], "refused bad-table 00000020\n"),
-        (0x31, &[1], "refused bad-section 00000000\n"),
         (
             0x38,
             &[0xFF, 0xFF, 0xFF, 0xFF],
@@ -128,6 +127,12 @@ fn prints_the_first_fault(rt: HostRuntime) -> Result<(), Fail> {
         assert_eq!(rt; got.0, Status::Refused);
         assert_eq!(rt; got.1.as_slice(), line.as_bytes());
     }
+    // A section header without names: it is no section that is read.
+    let mut nameless = file.as_slice().to_vec(alloc)?;
+    put(&mut nameless, 0x31, &[1]);
+    let got = analysed(alloc, &nameless)?;
+    assert_eq!(rt; got.0, Status::Done);
+    assert_eq!(rt; got.1.as_slice(), b"bound 22\n".as_slice());
     let empty = analysed(alloc, &[])?;
     assert_eq!(rt; empty.0, Status::Refused);
     assert_eq!(rt; empty.1.as_slice(), b"refused short 00000000\n".as_slice());
