@@ -1,3 +1,7 @@
 -- What the contracts on profiles say.
 pub mod Limits
 pub mod Costs
+pub mod Keys
+pub mod Values
+pub mod Faults
+pub mod Rows

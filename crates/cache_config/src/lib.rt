@@ -1,7 +1,12 @@
 //! Profiles: what a machine's instructions and memory cost, and where a program's data may lie.
 #![tactic(auto)]
 
+mod fault;
+mod keys;
 mod profile;
+mod spans;
+mod trial;
+mod values;
 
 pub use profile::{Cycles, Profile, Region};
 
