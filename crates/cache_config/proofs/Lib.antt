@@ -1,0 +1,3 @@
+-- Lemmas on profiles.
+pub mod ValueLemmas
+pub mod FirstLemmas

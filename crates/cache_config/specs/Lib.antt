@@ -5,3 +5,4 @@ pub mod Keys
 pub mod Values
 pub mod Faults
 pub mod Rows
+pub mod Firsts

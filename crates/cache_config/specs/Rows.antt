@@ -2,7 +2,7 @@
 use Rattle.std.specs.Prelude.{◌≡◌, ℕ, ◌<◌, ◌≤◌, ◌%◌, ⊤}
 use Rattle.cache_config.specs.declared.keys.Key.{Key}
 use Rattle.cache_config.specs.declared.keys.Kind.{Kind}
-use Rattle.cache_config.specs.declared.keys.Kind.TheVariants.{Number, Text, Costs, Regions, Unread}
+use Rattle.cache_config.specs.declared.keys.Kind.TheVariants.{Number, Eights, Text, Costs, Regions, Unread}
 use Rattle.cache_config.specs.declared.keys.Absent.{Absent}
 use Rattle.cache_config.specs.declared.keys.Absent.TheVariants.{Default, Nothing, Required}
 use Rattle.cache_config.specs.Keys.{Row, row}
@@ -11,17 +11,10 @@ use Rattle.cache_config.specs.Keys.{Row, row}
 abbrev pub row_of : Key → Row
 row_of key = row key.name.now key.kind key.absent
 
--- The step of a number's kind isn't 0.
-abbrev pub HasStep : Kind → Type 0
-HasStep (Number least most step) = 0 < step
-HasStep Text = ⊤
-HasStep Costs = ⊤
-HasStep Regions = ⊤
-HasStep Unread = ⊤
-
 -- The number is within the limits of the kind.
 abbrev pub IsWithin : Kind → ℕ → Type 0
-IsWithin (Number least most step) n = (least ≤ n) × (n ≤ most) × (n % step ≡ 0)
+IsWithin (Number least most) n = (least ≤ n) × (n ≤ most)
+IsWithin (Eights least most) n = (least ≤ n) × (n ≤ most) × (n % 8 ≡ 0)
 IsWithin Text n = ⊤
 IsWithin Costs n = ⊤
 IsWithin Regions n = ⊤

@@ -1,34 +1,30 @@
 -- What the value at a key is: a number, a text, a table, elements or a span of addresses.
 use Rattle.std.specs.Prelude.{ℕ, ℤ, pos, negsuc, ◌+◌, ◌-◌, ◌%◌, ◌==◌, ◌&&◌, nat_le, Bool, true, List, [], ◌∷◌, length, Option, Some, None, is_some, unwrap_or, option_map, option_and_then, if◌then◌else◌}
 use Rattle.std.specs.Option.{option_map_or}
-use Rattle.toml.specs.Data.{Data, string, integer, float, boolean, datetime, array, table, Items, no_items, item, Members, no_members, get_member, as_array, as_str, as_table}
+use Rattle.toml.specs.Data.{Data, Items, no_items, item, Members, no_members, get_member, as_array, as_integer, as_str, as_table}
 use Rattle.cache_config.specs.declared.keys.Kind.{Kind}
-use Rattle.cache_config.specs.declared.keys.Kind.TheVariants.{Number, Text, Costs, Regions, Unread}
+use Rattle.cache_config.specs.declared.keys.Kind.TheVariants.{Number, Eights, Text, Costs, Regions, Unread}
 use Rattle.cache_config.specs.declared.keys.Absent.{Absent}
 use Rattle.cache_config.specs.declared.keys.Absent.TheVariants.{Default, Nothing, Required}
 use Rattle.cache_config.specs.declared.spans.Span.{Span}
 use Rattle.cache_config.specs.Keys.{Row, cycles_row, entry_row, region_row, size_row, stack_size_row, stack_top_row, start_row, cache_row}
 use Rattle.cache_config.specs.Limits.{area_above, most_regions}
 
--- The integer as a number from least to most that is a multiple of step; none where it isn't one.
-abbrev pub within : ℕ → ℕ → ℕ → ℤ → Option ℕ
-within least most step (pos n) =
-    if (nat_le least n && nat_le n most) && (n % step == 0) then Some n else None
-within least most step (negsuc n) = None
+-- The integer as a number from least to most; none where it isn't one.
+abbrev pub within : ℕ → ℕ → ℤ → Option ℕ
+within least most (pos n) = if nat_le least n && nat_le n most then Some n else None
+within least most (negsuc n) = None
 
--- The same of a value. Only an integer is a number: a float, a date or a text isn't one.
-abbrev pub number_in : ℕ → ℕ → ℕ → Data → Option ℕ
-number_in least most step (string s) = None
-number_in least most step (integer z) = within least most step z
-number_in least most step (float x) = None
-number_in least most step (boolean b) = None
-number_in least most step (datetime d) = None
-number_in least most step (array ds) = None
-number_in least most step (table ms) = None
+-- The number where it is a multiple of 8.
+abbrev pub eights : Option ℕ → Option ℕ
+eights None = None
+eights (Some n) = if n % 8 == 0 then Some n else None
 
 -- The number that the value is, where the kind asks for a number and the value is within its limits.
+-- Only an integer is a number: a float, a date or a text isn't one.
 abbrev pub number_of : Kind → Data → Option ℕ
-number_of (Number least most step) d = number_in least most step d
+number_of (Number least most) d = option_and_then (within least most) (as_integer d)
+number_of (Eights least most) d = eights (option_and_then (within least most) (as_integer d))
 number_of Text d = None
 number_of Costs d = None
 number_of Regions d = None
@@ -49,7 +45,8 @@ members_in d = option_map_or (λ ms. ms) (as_table d) no_members
 
 -- The value is of the kind and within the kind's limits, whatever stands inside it.
 abbrev pub fits : Kind → Data → Bool
-fits (Number least most step) d = is_some (number_in least most step d)
+fits (Number least most) d = is_some (number_of (Number least most) d)
+fits (Eights least most) d = is_some (number_of (Eights least most) d)
 fits Text d = is_some (as_str d)
 fits Costs d = is_some (as_table d)
 fits Regions d = is_some (as_array d) && nat_le (length (elements_in d)) most_regions

@@ -3,8 +3,10 @@
 /// What may stand at a key.
 #[derive(Clone, Copy, Debug)]
 pub(crate) enum Kind {
-    /// An integer from `least` to `most` that is a multiple of `step`.
-    Number { least: u64, most: u64, step: u64 },
+    /// An integer from `least` to `most`.
+    Number { least: u64, most: u64 },
+    /// An integer from `least` to `most` that is a multiple of 8.
+    Eights { least: u64, most: u64 },
     /// A text.
     Text,
     /// A table of the cycles of classes.
@@ -38,19 +40,19 @@ pub(crate) struct Key {
 }
 
 #[rattlefmt::skip]
-pub(crate) const MEMORY: Key = Key { name: "memory", kind: Kind::Number { least: 0, most: 1_000_000, step: 1 }, absent: Absent::Default(10) };
+pub(crate) const MEMORY: Key = Key { name: "memory", kind: Kind::Number { least: 0, most: 1_000_000 }, absent: Absent::Default(10) };
 #[rattlefmt::skip]
-pub(crate) const STORE: Key = Key { name: "store", kind: Kind::Number { least: 0, most: 1_000_000, step: 1 }, absent: Absent::Default(10) };
+pub(crate) const STORE: Key = Key { name: "store", kind: Kind::Number { least: 0, most: 1_000_000 }, absent: Absent::Default(10) };
 #[rattlefmt::skip]
-pub(crate) const SPLITS: Key = Key { name: "splits", kind: Kind::Number { least: 0, most: 1_000_000, step: 1 }, absent: Absent::Default(256) };
+pub(crate) const SPLITS: Key = Key { name: "splits", kind: Kind::Number { least: 0, most: 1_000_000 }, absent: Absent::Default(256) };
 #[rattlefmt::skip]
-pub(crate) const STEPS: Key = Key { name: "steps", kind: Kind::Number { least: 1, most: 100_000_000, step: 1 }, absent: Absent::Default(1_000_000) };
+pub(crate) const STEPS: Key = Key { name: "steps", kind: Kind::Number { least: 1, most: 100_000_000 }, absent: Absent::Default(1_000_000) };
 #[rattlefmt::skip]
-pub(crate) const STACK_TOP: Key = Key { name: "stack_top", kind: Kind::Number { least: 0, most: 0xFFFF_FFB0, step: 8 }, absent: Absent::Default(0x7FFF_0000) };
+pub(crate) const STACK_TOP: Key = Key { name: "stack_top", kind: Kind::Eights { least: 0, most: 0xFFFF_FFB0 }, absent: Absent::Default(0x7FFF_0000) };
 #[rattlefmt::skip]
-pub(crate) const STACK_SIZE: Key = Key { name: "stack_size", kind: Kind::Number { least: 64, most: 16_777_216, step: 8 }, absent: Absent::Default(65_536) };
+pub(crate) const STACK_SIZE: Key = Key { name: "stack_size", kind: Kind::Eights { least: 64, most: 16_777_216 }, absent: Absent::Default(65_536) };
 #[rattlefmt::skip]
-pub(crate) const GP: Key = Key { name: "gp", kind: Kind::Number { least: 0, most: 0xFFFF_FFFF, step: 1 }, absent: Absent::Nothing };
+pub(crate) const GP: Key = Key { name: "gp", kind: Kind::Number { least: 0, most: 0xFFFF_FFFF }, absent: Absent::Nothing };
 #[rattlefmt::skip]
 pub(crate) const ENTRY: Key = Key { name: "entry", kind: Kind::Text, absent: Absent::Nothing };
 #[rattlefmt::skip]
@@ -66,25 +68,25 @@ pub(crate) const PROFILE: [Key; 11] = [
 ];
 
 #[rattlefmt::skip]
-pub(crate) const ALU: Key = Key { name: "alu", kind: Kind::Number { least: 1, most: 1_000_000, step: 1 }, absent: Absent::Default(1) };
+pub(crate) const ALU: Key = Key { name: "alu", kind: Kind::Number { least: 1, most: 1_000_000 }, absent: Absent::Default(1) };
 #[rattlefmt::skip]
-pub(crate) const SHIFT: Key = Key { name: "shift", kind: Kind::Number { least: 1, most: 1_000_000, step: 1 }, absent: Absent::Default(1) };
+pub(crate) const SHIFT: Key = Key { name: "shift", kind: Kind::Number { least: 1, most: 1_000_000 }, absent: Absent::Default(1) };
 #[rattlefmt::skip]
-pub(crate) const MULT: Key = Key { name: "mult", kind: Kind::Number { least: 1, most: 1_000_000, step: 1 }, absent: Absent::Default(1) };
+pub(crate) const MULT: Key = Key { name: "mult", kind: Kind::Number { least: 1, most: 1_000_000 }, absent: Absent::Default(1) };
 #[rattlefmt::skip]
-pub(crate) const DIV: Key = Key { name: "div", kind: Kind::Number { least: 1, most: 1_000_000, step: 1 }, absent: Absent::Default(1) };
+pub(crate) const DIV: Key = Key { name: "div", kind: Kind::Number { least: 1, most: 1_000_000 }, absent: Absent::Default(1) };
 #[rattlefmt::skip]
-pub(crate) const MOVE: Key = Key { name: "move", kind: Kind::Number { least: 1, most: 1_000_000, step: 1 }, absent: Absent::Default(1) };
+pub(crate) const MOVE: Key = Key { name: "move", kind: Kind::Number { least: 1, most: 1_000_000 }, absent: Absent::Default(1) };
 #[rattlefmt::skip]
-pub(crate) const LOAD: Key = Key { name: "load", kind: Kind::Number { least: 1, most: 1_000_000, step: 1 }, absent: Absent::Default(1) };
+pub(crate) const LOAD: Key = Key { name: "load", kind: Kind::Number { least: 1, most: 1_000_000 }, absent: Absent::Default(1) };
 #[rattlefmt::skip]
-pub(crate) const STORES: Key = Key { name: "store", kind: Kind::Number { least: 1, most: 1_000_000, step: 1 }, absent: Absent::Default(1) };
+pub(crate) const STORES: Key = Key { name: "store", kind: Kind::Number { least: 1, most: 1_000_000 }, absent: Absent::Default(1) };
 #[rattlefmt::skip]
-pub(crate) const BRANCH: Key = Key { name: "branch", kind: Kind::Number { least: 1, most: 1_000_000, step: 1 }, absent: Absent::Default(1) };
+pub(crate) const BRANCH: Key = Key { name: "branch", kind: Kind::Number { least: 1, most: 1_000_000 }, absent: Absent::Default(1) };
 #[rattlefmt::skip]
-pub(crate) const JUMP: Key = Key { name: "jump", kind: Kind::Number { least: 1, most: 1_000_000, step: 1 }, absent: Absent::Default(1) };
+pub(crate) const JUMP: Key = Key { name: "jump", kind: Kind::Number { least: 1, most: 1_000_000 }, absent: Absent::Default(1) };
 #[rattlefmt::skip]
-pub(crate) const STOP: Key = Key { name: "stop", kind: Kind::Number { least: 1, most: 1_000_000, step: 1 }, absent: Absent::Default(1) };
+pub(crate) const STOP: Key = Key { name: "stop", kind: Kind::Number { least: 1, most: 1_000_000 }, absent: Absent::Default(1) };
 
 /// The keys of the table `cycles`.
 pub(crate) const COSTS: [Key; 10] = [
@@ -92,9 +94,9 @@ pub(crate) const COSTS: [Key; 10] = [
 ];
 
 #[rattlefmt::skip]
-pub(crate) const START: Key = Key { name: "start", kind: Kind::Number { least: 0, most: 0xFFFF_FFEF, step: 1 }, absent: Absent::Required };
+pub(crate) const START: Key = Key { name: "start", kind: Kind::Number { least: 0, most: 0xFFFF_FFEF }, absent: Absent::Required };
 #[rattlefmt::skip]
-pub(crate) const SIZE: Key = Key { name: "size", kind: Kind::Number { least: 1, most: 16_777_216, step: 1 }, absent: Absent::Required };
+pub(crate) const SIZE: Key = Key { name: "size", kind: Kind::Number { least: 1, most: 16_777_216 }, absent: Absent::Required };
 
 /// The keys of each table in the array `region`.
 pub(crate) const REGIONS: [Key; 2] = [START, SIZE];

@@ -1,10 +1,10 @@
 //! What the value at a key is.
 
-ghost use Rattle.std.specs.Prelude.{◌≡◌, ◌<◌, IfSome, map, option_map};
-ghost use Rattle.toml.specs.Data.{get_member, no_members};
+ghost use Rattle.std.specs.Prelude.{◌≡◌, ◌≤◌, IfSome, map, option_and_then, option_map};
+ghost use Rattle.toml.specs.Data.{as_integer, get_member, no_members};
 ghost use Rattle.toml.specs.View.{table_view, view};
-ghost use Rattle.cache_config.specs.Rows.{HasDefault, HasLawfulDefault, HasStep, IsWithin, row_of};
-ghost use Rattle.cache_config.specs.Values.{elements_in, fits, members_at, elements_at, is_kept, number_at, number_of, value_of, within};
+ghost use Rattle.cache_config.specs.Rows.{HasDefault, HasLawfulDefault, IsWithin, row_of};
+ghost use Rattle.cache_config.specs.Values.{eights, elements_in, fits, members_at, elements_at, is_kept, number_at, number_of, value_of, within};
 
 use crate::keys::{Absent, Key, Kind};
 use toml::{Table, Value};
@@ -16,51 +16,76 @@ pub(crate) fn member<'a>(table: &'a Table, name: &str) -> Option<&'a Value>
     table.get(name)
 }
 
-/// The integer as a number from `least` to `most` that is a multiple of `step`.
-fn within(integer: i64, least: u64, most: u64, step: u64) -> Option<u64>
-    requires { 0 < step }
-    ensures { result ≡ within least most step integer }
+/// The integer as a number from `least` to `most`.
+fn within(integer: i64, least: u64, most: u64) -> Option<u64>
+    ensures { result ≡ within least most integer }
 {
     match u64::try_from(integer) {
-        Ok(n) if least <= n && n <= most && n % step == 0 => Some(n),
+        Ok(n) if least <= n && n <= most => Some(n),
+        _ => None,
+    }
+}
+
+/// The value as a number from `least` to `most`.
+fn number_in(value: &Value, least: u64, most: u64) -> Option<u64>
+    ensures value { result ≡ option_and_then (within least most) (as_integer (view value.now)) }
+    ensures within { IfSome result (λ n. (least ≤ n) × (n ≤ most)) }
+{
+    match value.as_integer() {
+        Some(integer) => within(integer, least, most),
+        None => None,
+    }
+}
+
+/// The number where it is a multiple of 8.
+fn eights(number: Option<u64>) -> Option<u64>
+    ensures { result ≡ eights number }
+{
+    match number {
+        Some(n) if n % 8 == 0 => Some(n),
         _ => None,
     }
 }
 
 /// The number that the value is, where the kind asks for a number and the value is within its limits.
 pub(crate) fn number_of(kind: Kind, value: &Value) -> Option<u64>
-    requires { HasStep kind }
     ensures value { result ≡ number_of kind (view value.now) }
     ensures within { IfSome result (IsWithin kind) }
 {
-    match (kind, value) {
-        (Kind::Number { least, most, step }, Value::Integer(integer)) => {
-            within(*integer, least, most, step)
-        }
+    match kind {
+        Kind::Number { least, most } => number_in(value, least, most),
+        Kind::Eights { least, most } => eights(number_in(value, least, most)),
         _ => None,
+    }
+}
+
+/// The elements of a value; none where it isn't an array.
+#[tactic(auto, using(crate::proofs::ValueLemmas::view_of_items))]
+pub(crate) fn items_of(value: &Value) -> &[Value]
+    ensures { map view result.now ≡ elements_in (view value.now) }
+{
+    match value.as_array() {
+        Some(items) => items.as_slice(),
+        None => &[],
     }
 }
 
 /// Whether the value is of the kind and within the kind's limits.
 pub(crate) fn fits(kind: Kind, value: &Value) -> bool
-    requires { HasStep kind }
     ensures { result ≡ fits kind (view value.now) }
 {
     match kind {
         Kind::Number { .. } => number_of(kind, value).is_some(),
+        Kind::Eights { .. } => number_of(kind, value).is_some(),
         Kind::Text => value.is_str(),
         Kind::Costs => value.is_table(),
-        Kind::Regions => match value {
-            Value::Array(items) => items.len() <= 16,
-            _ => false,
-        },
+        Kind::Regions => value.is_array() && items_of(value).len() <= 16,
         Kind::Unread => true,
     }
 }
 
 /// The number at a key; `None` where no number within the key's limits stands there.
 pub(crate) fn number_at(table: &Table, key: &Key) -> Option<u64>
-    requires { HasStep key.now.kind }
     ensures value { result ≡ number_at (row_of key.now) (table_view table.now) }
     ensures within { IfSome result (IsWithin key.now.kind) }
 {
@@ -72,8 +97,7 @@ pub(crate) fn number_at(table: &Table, key: &Key) -> Option<u64>
 
 /// The number that a key with a default gives.
 pub(crate) fn value_of(table: &Table, key: &Key) -> u64
-    requires step { HasStep key.now.kind }
-    requires default { HasLawfulDefault key.now.kind key.now.absent }
+    requires { HasLawfulDefault key.now.kind key.now.absent }
     ensures value { result ≡ value_of (row_of key.now) (table_view table.now) }
     ensures within { HasDefault key.now.absent → IsWithin key.now.kind result }
 {
@@ -86,7 +110,6 @@ pub(crate) fn value_of(table: &Table, key: &Key) -> u64
 
 /// Whether what stands at a key is of its kind and within its limits, or nothing stands there.
 pub(crate) fn is_kept(table: &Table, key: &Key) -> bool
-    requires { HasStep key.now.kind }
     ensures { result ≡ is_kept (row_of key.now) (table_view table.now) }
 {
     match member(table, key.name) {
@@ -101,8 +124,8 @@ pub(crate) fn table_at<'a>(table: &'a Table, name: &str, empty: &'a Table) -> &'
     ensures { table_view result.now ≡ members_at name.now (table_view table.now) }
 {
     match member(table, name) {
-        Some(Value::Table(inner)) => inner,
-        _ => empty,
+        Some(value) => value.as_table().unwrap_or(empty),
+        None => empty,
     }
 }
 
@@ -111,7 +134,7 @@ pub(crate) fn elements_at<'a>(table: &'a Table, name: &str) -> &'a [Value]
     ensures { map view result.now ≡ elements_at name.now (table_view table.now) }
 {
     match member(table, name) {
-        Some(Value::Array(items)) => items.as_slice(),
-        _ => &[],
+        Some(value) => items_of(value),
+        None => &[],
     }
 }
