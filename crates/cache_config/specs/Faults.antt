@@ -4,14 +4,14 @@ use Rattle.std.specs.List.{list_any}
 use Rattle.std.specs.Option.{option_map_or}
 use Rattle.std.specs.Ordering.{nat_cmp, is_lt}
 use Rattle.std.specs.Cmp.Lexicographic.{slice_cmp}
-use Rattle.toml.specs.Data.{Data, string, integer, float, boolean, datetime, array, table, Members, no_members, member, get_member}
+use Rattle.toml.specs.Data.{Data, Members, no_members, member, as_table, get_member}
 use Rattle.cache_config.specs.declared.fault.Fault.{Fault}
 use Rattle.cache_config.specs.declared.fault.FaultKind.{FaultKind}
 use Rattle.cache_config.specs.declared.fault.FaultKind.TheVariants.{Key, Range}
 use Rattle.cache_config.specs.declared.keys.Absent.{Absent}
 use Rattle.cache_config.specs.declared.keys.Absent.TheVariants.{Default, Nothing, Required}
 use Rattle.cache_config.specs.declared.spans.Span.{Span}
-use Rattle.cache_config.specs.Keys.{Row, cost_rows, profile_rows, region_rows, stack_size_row, stack_top_row}
+use Rattle.cache_config.specs.Keys.{Row, cost_rows, profile_rows, region_rows, stack_size_row, stack_top_row, start_row}
 use Rattle.cache_config.specs.Limits.{memory_end, most_regions}
 use Rattle.cache_config.specs.Values.{costs_of, fits, is_kept, regions_of, span_of, stack_of, value_of}
 
@@ -68,7 +68,7 @@ table_faults prefix rows ms = unknown_faults prefix rows ms ++ flat_map (row_fau
 abbrev pub stack_faults : Members → List Fault
 stack_faults ms =
     if (is_kept stack_top_row ms && is_kept stack_size_row ms) && nat_lt (value_of stack_top_row ms) (value_of stack_size_row ms)
-    then range_fault stack_top_row.name ∷ [] else []
+    then range_fault (path_of [] stack_top_row.name) ∷ [] else []
 
 -- The path of an element of `region`, and what stands before a key inside it.
 abbrev pub element_path : ℕ → List ℕ
@@ -94,17 +94,15 @@ is_misplaced stack earlier s =
 abbrev pub place_faults : Option Span → List Data → ℕ → Option Span → List Fault
 place_faults stack earlier at None = []
 place_faults stack earlier at (Some s) =
-    if is_misplaced stack earlier s then range_fault (path_of (element_prefix at) (codes "start")) ∷ [] else []
+    if is_misplaced stack earlier s then range_fault (path_of (element_prefix at) start_row.name) ∷ [] else []
 
--- The faults of an element by itself.
+-- The faults of an element by itself: it isn't a table, or its keys have faults.
+abbrev pub shape_by : ℕ → Option Members → List Fault
+shape_by at None = range_fault (element_path at) ∷ []
+shape_by at (Some ms) = table_faults (element_prefix at) region_rows ms
+
 abbrev pub shape_faults : ℕ → Data → List Fault
-shape_faults at (string s) = range_fault (element_path at) ∷ []
-shape_faults at (integer z) = range_fault (element_path at) ∷ []
-shape_faults at (float x) = range_fault (element_path at) ∷ []
-shape_faults at (boolean b) = range_fault (element_path at) ∷ []
-shape_faults at (datetime d) = range_fault (element_path at) ∷ []
-shape_faults at (array ds) = range_fault (element_path at) ∷ []
-shape_faults at (table ms) = table_faults (element_prefix at) region_rows ms
+shape_faults at d = shape_by at (as_table d)
 
 -- The faults of the element of this number. Where there are too many elements, `region` itself is a
 -- fault and stands before each path inside it, so that the joint rules could change no answer.

@@ -3,11 +3,11 @@
 
 mod checks;
 mod fault;
+mod first;
 mod keys;
 mod paths;
 mod profile;
 mod spans;
-mod trial;
 mod values;
 
 pub use fault::ConfigFault;
