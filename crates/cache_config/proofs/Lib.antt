@@ -1,3 +1,4 @@
 -- Lemmas on profiles.
 pub mod ValueLemmas
 pub mod FirstLemmas
+pub mod OrderLemmas

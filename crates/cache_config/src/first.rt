@@ -74,6 +74,7 @@ fn note_shape(
 }
 
 /// Notes the faults of an element of `region`: the value at `at` of these.
+#[tactic(auto, using(crate::proofs::FirstLemmas::appended))]
 fn note_element(
     alloc: Global,
     stack: Option<Span>,
@@ -93,6 +94,7 @@ fn note_element(
 }
 
 /// Notes the faults of the elements of `region`.
+#[tactic(auto, using(crate::proofs::FirstLemmas::appended))]
 fn note_regions(
     alloc: Global,
     stack: Option<Span>,
@@ -108,6 +110,7 @@ fn note_regions(
 }
 
 /// The first fault of a profile's text.
+#[tactic(auto, using(crate::proofs::FirstLemmas::appended))]
 pub(crate) fn first_fault(alloc: Global, table: &Table) -> Result<Option<Fault>, AllocError>
     ensures { IfOk result (λ first. first ≡ first_of None (profile_faults (table_view table.now))) }
 {
