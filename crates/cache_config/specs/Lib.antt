@@ -6,3 +6,4 @@ pub mod Values
 pub mod Faults
 pub mod Rows
 pub mod Firsts
+pub mod Profiles

@@ -7,6 +7,7 @@ mod first;
 mod keys;
 mod paths;
 mod profile;
+mod read;
 mod spans;
 mod values;
 
