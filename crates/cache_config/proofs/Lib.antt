@@ -2,3 +2,6 @@
 pub mod ValueLemmas
 pub mod FirstLemmas
 pub mod OrderLemmas
+pub mod EmptyLemmas
+pub mod PlaceLemmas
+pub mod RegionLoop

@@ -81,3 +81,21 @@ fn read_region(stack: Span, earlier: &[Value], value: &Value) -> Option<Region>
         size: span.size,
     })
 }
+
+/// The regions of the elements of `region`, none of which has a fault.
+fn read_regions(alloc: Global, stack: Span, values: &[Value]) -> Result<List<Region>, AllocError>
+    requires few { length values.now ≤ 16 }
+    requires faultless { region_faults (Some stack) (map view values.now) ≡ [] }
+    ensures regions { IfOk result (λ rs. map (λ r. Some (span r)) rs ≡ map span_of (map view values.now)) }
+    ensures off_stack { IfOk result (All (λ r. AreApart stack.start stack.size r.start r.size)) }
+    ensures apart { IfOk result (AllPairs (λ r s. AreApart r.start r.size s.start s.size)) }
+{
+    let mut regions = List::new(alloc);
+    for at in 0..values.len() {
+        let Some(region) = read_region(stack, &values[..at], &values[at]) else {
+            unreachable!()
+        };
+        regions.push(region)?;
+    }
+    Ok(regions)
+}
