@@ -5,3 +5,4 @@ pub mod OrderLemmas
 pub mod EmptyLemmas
 pub mod PlaceLemmas
 pub mod RegionLoop
+pub mod FaultlessLemmas

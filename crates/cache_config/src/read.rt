@@ -99,3 +99,79 @@ fn read_regions(alloc: Global, stack: Span, values: &[Value]) -> Result<List<Reg
     }
     Ok(regions)
 }
+
+/// The profile of a text without a fault.
+fn read_values(alloc: Global, table: &Table) -> Result<Profile, AllocError>
+    requires { profile_faults (table_view table.now) ≡ [] }
+    ensures { IfOk result (ReadsAs (table_view table.now)) }
+{
+    let Some(stack) = stack_of(table) else {
+        unreachable!()
+    };
+    let entry = read_entry(alloc, table)?;
+    let regions = read_regions(alloc, stack, elements_at(table, REGION.name))?;
+    let empty = Table::new(alloc);
+    let cycles = read_costs(table_at(table, CYCLES.name, &empty));
+    Ok(Profile {
+        memory: value_of(table, &MEMORY),
+        store: value_of(table, &STORE),
+        splits: value_of(table, &SPLITS) as u32,
+        steps: value_of(table, &STEPS) as u32,
+        stack_top: value_of(table, &STACK_TOP) as u32,
+        stack_size: value_of(table, &STACK_SIZE) as u32,
+        gp: read_gp(table),
+        entry,
+        cycles,
+        regions,
+        unbuilt: member(table, CACHE.name).is_some(),
+    })
+}
+
+/// The table of a text.
+fn read_table(alloc: Global, text: &[u8]) -> Result<Table, ConfigFault>
+    ensures table { IfOk result (λ t. Means text.now (table_view t)) }
+    ensures fault { IfErr result (Tells text.now) }
+{
+    match toml::table_from_slice(alloc, text) {
+        Ok(table) => Ok(table),
+        Err(error) => {
+            if error.is_memory() {
+                Err(ConfigFault::Memory)
+            } else {
+                Err(ConfigFault::Text)
+            }
+        }
+    }
+}
+
+/// Answers the first fault of a table, where it has one.
+fn check_table(alloc: Global, table: &Table) -> Result<(), ConfigFault>
+    ensures ok { OnOk result (profile_faults (table_view table.now) ≡ []) }
+    ensures fault { IfErr result (TellsOf (table_view table.now)) }
+{
+    match first_fault(alloc, table)? {
+        None => Ok(()),
+        Some(fault) => {
+            let path = fault.path;
+            match fault.kind {
+                FaultKind::Key => Err(ConfigFault::Key { path }),
+                FaultKind::Range => Err(ConfigFault::Range { path }),
+            }
+        }
+    }
+}
+
+/// The profile that the text gives, or the text's first fault.
+///
+/// `docs/FORMATS.md` lists the keys. A text that isn't UTF-8 or isn't TOML is a fault `Text`; an unknown
+/// or a missing key is a fault `Key`, and a value of another kind or out of its limits a fault `Range`,
+/// each with the key's printed path. Of several faults a `Key` is answered before a `Range`, and of one
+/// kind the one with the least path, byte by byte. Want of memory is `Memory`.
+pub fn read_profile(alloc: Global, text: &[u8]) -> Result<Profile, ConfigFault>
+    ensures profile { IfOk result (IsProfileOf text.now) }
+    ensures fault { IfErr result (Tells text.now) }
+{
+    let table = read_table(alloc, text)?;
+    check_table(alloc, &table)?;
+    Ok(read_values(alloc, &table)?)
+}
