@@ -1,18 +1,21 @@
 -- What a text without a fault keeps.
-use Rattle.std.proofs.Common.{◌≡◌, ℕ, ◌+◌, ◌-◌, ◌<◌, ◌≤◌, Bool, true, false, ◌&&◌, nat_le, nat_lt, List, [], ◌∷◌, ◌++◌, length, Option, Some, None, refl, sym, ◌∙◌, ap, arith}
+use Rattle.std.proofs.Common.{◌≡◌, ℕ, ◌+◌, ◌-◌, ◌<◌, ◌≤◌, Bool, true, false, ◌&&◌, nat_le, nat_lt, List, [], ◌∷◌, ◌++◌, length, Option, Some, None, refl, sym, ◌∙◌, ap, arith, map, subst, unwrap_or}
 use Rattle.std.proofs.lemmas.Bool.{and_parts}
 use Rattle.std.proofs.lemmas.Bool.Decides.{nat_tests}
-use Rattle.std.specs.List.{AllByRecursion, flat_map}
+use Rattle.std.proofs.lemmas.List.{length-map}
+use Rattle.std.specs.List.{All, AllByRecursion, flat_map}
 use Rattle.std.specs.Option.{option_map_or}
 use Rattle.std.specs.Prelude.{codes}
 use Rattle.toml.specs.Data.{Data, Members, get_member}
 use Rattle.cache_config.specs.declared.fault.Fault.{Fault}
 use Rattle.cache_config.specs.declared.keys.Kind.TheVariants.{Regions}
+use Rattle.cache_config.specs.declared.profile.Region.{Region}
 use Rattle.cache_config.specs.declared.spans.Span.{Span}
 use Rattle.cache_config.specs.Keys.{Row, cost_rows, profile_rows, region_row, stack_size_row, stack_top_row}
-use Rattle.cache_config.specs.Limits.{area_above, most_regions}
+use Rattle.cache_config.specs.Limits.{AreApart, IsOffStack, area_above, most_regions}
 use Rattle.cache_config.specs.Faults.{profile_faults, path_of, range_fault, region_faults, row_faults, stack_faults, table_faults, unknown_faults, value_faults}
-use Rattle.cache_config.specs.Values.{costs_of, elements_in, fits, is_kept, regions_of, stack_by, stack_of, value_of}
+use Rattle.cache_config.specs.Profiles.{span}
+use Rattle.cache_config.specs.Values.{costs_of, elements_in, fits, is_kept, regions_of, span_of, stack_by, stack_of, value_of}
 use Rattle.cache_config.proofs.EmptyLemmas.{empty_both, failed_test, kept_test}
 
 -- Each part of lists that are empty together.
@@ -65,3 +68,20 @@ faultless ms e =
       few = few-by (get_member region_row.name ms) region;
       regions = regions;
     }
+
+-- The span of the stack that was found.
+pub same_stack : (ms : Members) (stack : Span) → IsFaultless ms → stack_of ms ≡ Some stack →
+    record { start = value_of stack_top_row ms - value_of stack_size_row ms; size = value_of stack_size_row ms + area_above } ≡ stack
+same_stack ms stack free found = ap (λ o. unwrap_or o stack) (sym free.stack ∙ found)
+
+-- The regions lie off the stack.
+pub all_off_stack : (top size : ℕ) (stack : Span) (regions : List Region) → record { start = top - size; size = size + area_above } ≡ stack →
+    All (λ r. AreApart stack.start stack.size r.start r.size) regions → All (λ r. IsOffStack top size r.start r.size) regions
+all_off_stack top size stack regions same off =
+    subst (λ s. All (λ r. AreApart s.start s.size r.start r.size) regions) (sym same) off
+
+-- There are as many regions as elements.
+pub few_regions : (regions : List Region) (ds : List Data) → map (λ r. Some (span r)) regions ≡ map span_of ds → length ds ≤ most_regions → length regions ≤ most_regions
+few_regions regions ds e few =
+    let same : length regions ≡ length ds = sym (length-map regions (λ r. Some (span r))) ∙ ap length e ∙ length-map ds span_of in
+    rw same few

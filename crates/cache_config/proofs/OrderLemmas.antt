@@ -7,6 +7,7 @@ use Rattle.std.specs.Cmp.Lexicographic.{slice_cmp}
 use Rattle.std.specs.List.{All, Contains}
 use Rattle.std.specs.Ordering.{is_lt, is_gt, ordering_reverse}
 use Rattle.cache_config.specs.declared.fault.Fault.{Fault}
+use Rattle.cache_config.specs.declared.fault.FaultKind.{FaultKind}
 use Rattle.cache_config.specs.Faults.{IsFirst, is_before, rank}
 use Rattle.cache_config.specs.Firsts.{earlier, first_of}
 
@@ -112,3 +113,9 @@ some_stays known (x ∷ xs) = some_after (is_before x known) known x xs (λ k. s
 pub first_of-none : (faults : List Fault) → first_of None faults ≡ None → faults ≡ []
 first_of-none [] e = refl
 first_of-none (x ∷ xs) e = absurd (false≢true (sym (ap is_some e) ∙ some_stays x xs))
+
+-- The first fault of a list, by its kind and its path.
+pub first_of-kind : (faults : List Fault) (fault : Fault) (what : FaultKind) → first_of None faults ≡ Some fault → fault.kind ≡ what →
+    IsFirst faults (record { kind = what; path = fault.path })
+first_of-kind faults fault what e same =
+    subst (λ k. IsFirst faults (record { kind = k; path = fault.path })) same (first_of-first faults fault e)
