@@ -20,8 +20,8 @@ pub empty_both : {X : Type 0} (xs ys : List X) → xs ++ ys ≡ [] → (xs ≡ [
 empty_both [] ys e = (refl, e)
 empty_both (x ∷ xs) ys e = absurd (cons_empty x (xs ++ ys) e)
   where
-  cons_empty : {X : Type 0} (x : X) (xs : List X) → x ∷ xs ≡ [] → ⊥
-  cons_empty x xs e = cc
+    cons_empty : {X : Type 0} (x : X) (xs : List X) → x ∷ xs ≡ [] → ⊥
+    cons_empty x xs e = cc
 
 -- A test whose failure would be a fault.
 pub kept_test : (b : Bool) (fault : Fault) → (if b then [] else fault ∷ []) ≡ [] → b ≡ true
@@ -50,9 +50,9 @@ shape-by at (Some ms) e =
     let (unknown, rows) = empty_both (unknown_faults prefix region_rows ms) (flat_map (row_faults prefix ms) region_rows) e in
     let (start, more) = empty_both (row_faults prefix ms start_row) (row_faults prefix ms size_row ++ []) rows in
     let (size, end) = empty_both (row_faults prefix ms size_row) [] more in
-    span-by (number_at start_row ms) (number_at size_row ms) 
-      (required-by prefix start_row.name 0 (memory_end - 1) (get_member start_row.name ms) start)
-      (required-by prefix size_row.name 1 most_bytes (get_member size_row.name ms) size)
+    span-by (number_at start_row ms) (number_at size_row ms)
+    (required-by prefix start_row.name 0 (memory_end - 1) (get_member start_row.name ms) start)
+    (required-by prefix size_row.name 1 most_bytes (get_member size_row.name ms) size)
 
 -- An element without a fault gives a span.
 pub shape-span : (at : ℕ) (d : Data) → shape_faults at d ≡ [] → is_some (span_of d) ≡ true
@@ -69,10 +69,10 @@ pub free_at : (stack : Span) (values : List Value) (at : ℕ) (value : Value) �
 free_at stack values at value few low is e =
     let faults = element_faults (Some stack) (map view values) in
     let step : numbered faults at (map view (drop at values)) ≡ faults at (view value) ++ numbered faults (at + 1) (map view (drop (at + 1) values))
-          = rw (drop_more values at value low, is) refl in
+    = rw (drop_more values at value low, is) refl in
     let (here, rest) = empty_both (faults at (view value)) (numbered faults (at + 1) (map view (drop (at + 1) values))) (sym step ∙ e) in
     let place = place_faults (Some stack) (map view (take at values)) at (span_of (view value)) in
     let all : faults at (view value) ≡ shape_faults at (view value) ++ place
-          = rw (length-map values view, le-leb (length values) 16 few, take-map view at values) refl in
+    = rw (length-map values view, le-leb (length values) 16 few, take-map view at values) refl in
     let (shape, placed) = empty_both (shape_faults at (view value)) place (sym all ∙ here) in
     record { shape = shape; place = placed; rest = rest }

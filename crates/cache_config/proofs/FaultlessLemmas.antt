@@ -60,7 +60,7 @@ faultless ms e =
     let size = kept-by [] stack_size_row (get_member stack_size_row.name ms) each.1.1.1.1.1.0 in
     let region = kept-by [] region_row (get_member region_row.name ms) each.1.1.1.1.1.1.1.1.1.1.0 in
     let low = failed_test ((is_kept stack_top_row ms && is_kept stack_size_row ms) && nat_lt (value_of stack_top_row ms) (value_of stack_size_row ms))
-      (range_fault (path_of [] stack_top_row.name)) stack in
+    (range_fault (path_of [] stack_top_row.name)) stack in
     let low_top : nat_lt (value_of stack_top_row ms) (value_of stack_size_row ms) ≡ false = rw (top, size) at low in
     record {
       fits = grind (arith, nat_tests);

@@ -31,7 +31,7 @@ pub first_of-element : (seen : Option Fault) (stack : Option Span) (values : Lis
 first_of-element seen stack values at value few =
     let fits = le-leb (length values) 16 few in
     rw (length-map values view, fits, take-map view at values)
-      (sym (first_of-append seen (shape_faults at (view value)) (place_faults stack (map view (take at values)) at (span_of (view value)))))
+    (sym (first_of-append seen (shape_faults at (view value)) (place_faults stack (map view (take at values)) at (span_of (view value)))))
 
 -- The faults of the elements from one on: its own, and those of the elements behind it.
 pub numbered-drop : (faults : ℕ → Data → List Fault) (seen : Option Fault) (values : List Value) (at : ℕ) (value : Value) →
@@ -40,4 +40,4 @@ pub numbered-drop : (faults : ℕ → Data → List Fault) (seen : Option Fault)
     ≡ first_of (first_of seen (faults at (view value))) (numbered faults (at + 1) (map view (drop (at + 1) values)))
 numbered-drop faults seen values at value low is =
     rw (drop_more values at value low, is)
-      (first_of-append seen (faults at (view value)) (numbered faults (at + 1) (map view (drop (at + 1) values))))
+    (first_of-append seen (faults at (view value)) (numbered faults (at + 1) (map view (drop (at + 1) values))))

@@ -28,7 +28,7 @@ more_read stack values at value regions r few low is read same free =
     let fits = placed stack regions (map view (take at values)) r read.so_far free in
     let before = map view (take at values) in
     let spans : map span_of (map view (take (at + 1) values)) ≡ map span_of before ++ span_of (view value) ∷ []
-          = rw (take_more values at value low, is, map-append view (take at values) (value ∷ []), map-append span_of before (view value ∷ [])) refl in
+    = rw (take_more values at value low, is, map-append view (take at values) (value ∷ []), map-append span_of before (view value ∷ [])) refl in
     record {
       left = (free_at stack values at value few low is read.left).rest;
       so_far = rw (map-append (λ q. Some (span q)) regions (r ∷ []), spans, read.so_far, same) refl;

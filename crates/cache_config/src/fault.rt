@@ -36,7 +36,7 @@ impl From<AllocError> for ConfigFault {
 }
 
 /// The kinds of faults at a key, in the order in which they are answered.
-#[derive(Clone, Copy, Debug, PartialEq, Eq)]
+#[derive(Clone, Copy)]
 pub(crate) enum FaultKind {
     /// The key is unknown, or isn't there though it has to be.
     Key,
@@ -45,7 +45,7 @@ pub(crate) enum FaultKind {
 }
 
 /// A fault at a key.
-#[derive(Debug, Drop)]
+#[derive(Drop)]
 pub(crate) struct Fault {
     /// What is wrong.
     pub(crate) kind: FaultKind,

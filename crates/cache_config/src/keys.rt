@@ -1,7 +1,7 @@
 //! The key table: what may stand at each key of a profile's text.
 
 /// What may stand at a key.
-#[derive(Clone, Copy, Debug)]
+#[derive(Clone, Copy)]
 pub(crate) enum Kind {
     /// An integer from `least` to `most`.
     Number { least: u64, most: u64 },
@@ -18,7 +18,7 @@ pub(crate) enum Kind {
 }
 
 /// What holds where a key isn't there.
-#[derive(Clone, Copy, Debug)]
+#[derive(Clone, Copy)]
 pub(crate) enum Absent {
     /// This number.
     Default(u64),
@@ -29,7 +29,7 @@ pub(crate) enum Absent {
 }
 
 /// A row of the key table.
-#[derive(Clone, Copy, Debug)]
+#[derive(Clone, Copy)]
 pub(crate) struct Key {
     /// The key's name.
     pub(crate) name: &'static str,
@@ -41,24 +41,34 @@ pub(crate) struct Key {
 
 #[rattlefmt::skip]
 pub(crate) const MEMORY: Key = Key { name: "memory", kind: Kind::Number { least: 0, most: 1_000_000 }, absent: Absent::Default(10) };
+
 #[rattlefmt::skip]
 pub(crate) const STORE: Key = Key { name: "store", kind: Kind::Number { least: 0, most: 1_000_000 }, absent: Absent::Default(10) };
+
 #[rattlefmt::skip]
 pub(crate) const SPLITS: Key = Key { name: "splits", kind: Kind::Number { least: 0, most: 1_000_000 }, absent: Absent::Default(256) };
+
 #[rattlefmt::skip]
 pub(crate) const STEPS: Key = Key { name: "steps", kind: Kind::Number { least: 1, most: 100_000_000 }, absent: Absent::Default(1_000_000) };
+
 #[rattlefmt::skip]
 pub(crate) const STACK_TOP: Key = Key { name: "stack_top", kind: Kind::Eights { least: 0, most: 0xFFFF_FFB0 }, absent: Absent::Default(0x7FFF_0000) };
+
 #[rattlefmt::skip]
 pub(crate) const STACK_SIZE: Key = Key { name: "stack_size", kind: Kind::Eights { least: 64, most: 16_777_216 }, absent: Absent::Default(65_536) };
+
 #[rattlefmt::skip]
 pub(crate) const GP: Key = Key { name: "gp", kind: Kind::Number { least: 0, most: 0xFFFF_FFFF }, absent: Absent::Nothing };
+
 #[rattlefmt::skip]
 pub(crate) const ENTRY: Key = Key { name: "entry", kind: Kind::Text, absent: Absent::Nothing };
+
 #[rattlefmt::skip]
 pub(crate) const CYCLES: Key = Key { name: "cycles", kind: Kind::Costs, absent: Absent::Nothing };
+
 #[rattlefmt::skip]
 pub(crate) const CACHE: Key = Key { name: "cache", kind: Kind::Unread, absent: Absent::Nothing };
+
 #[rattlefmt::skip]
 pub(crate) const REGION: Key = Key { name: "region", kind: Kind::Regions, absent: Absent::Nothing };
 
@@ -69,22 +79,31 @@ pub(crate) const PROFILE: [Key; 11] = [
 
 #[rattlefmt::skip]
 pub(crate) const ALU: Key = Key { name: "alu", kind: Kind::Number { least: 1, most: 1_000_000 }, absent: Absent::Default(1) };
+
 #[rattlefmt::skip]
 pub(crate) const SHIFT: Key = Key { name: "shift", kind: Kind::Number { least: 1, most: 1_000_000 }, absent: Absent::Default(1) };
+
 #[rattlefmt::skip]
 pub(crate) const MULT: Key = Key { name: "mult", kind: Kind::Number { least: 1, most: 1_000_000 }, absent: Absent::Default(1) };
+
 #[rattlefmt::skip]
 pub(crate) const DIV: Key = Key { name: "div", kind: Kind::Number { least: 1, most: 1_000_000 }, absent: Absent::Default(1) };
+
 #[rattlefmt::skip]
 pub(crate) const MOVE: Key = Key { name: "move", kind: Kind::Number { least: 1, most: 1_000_000 }, absent: Absent::Default(1) };
+
 #[rattlefmt::skip]
 pub(crate) const LOAD: Key = Key { name: "load", kind: Kind::Number { least: 1, most: 1_000_000 }, absent: Absent::Default(1) };
+
 #[rattlefmt::skip]
 pub(crate) const STORES: Key = Key { name: "store", kind: Kind::Number { least: 1, most: 1_000_000 }, absent: Absent::Default(1) };
+
 #[rattlefmt::skip]
 pub(crate) const BRANCH: Key = Key { name: "branch", kind: Kind::Number { least: 1, most: 1_000_000 }, absent: Absent::Default(1) };
+
 #[rattlefmt::skip]
 pub(crate) const JUMP: Key = Key { name: "jump", kind: Kind::Number { least: 1, most: 1_000_000 }, absent: Absent::Default(1) };
+
 #[rattlefmt::skip]
 pub(crate) const STOP: Key = Key { name: "stop", kind: Kind::Number { least: 1, most: 1_000_000 }, absent: Absent::Default(1) };
 
@@ -95,6 +114,7 @@ pub(crate) const COSTS: [Key; 10] = [
 
 #[rattlefmt::skip]
 pub(crate) const START: Key = Key { name: "start", kind: Kind::Number { least: 0, most: 0xFFFF_FFEF }, absent: Absent::Required };
+
 #[rattlefmt::skip]
 pub(crate) const SIZE: Key = Key { name: "size", kind: Kind::Number { least: 1, most: 16_777_216 }, absent: Absent::Required };
 

@@ -13,6 +13,17 @@ mod values;
 
 pub use fault::ConfigFault;
 pub use profile::{Cycles, Profile, Region};
+pub use read::read_profile;
 
 #[cfg(test)]
+mod fault_tests;
+#[cfg(test)]
+mod limit_tests;
+#[cfg(test)]
+mod region_tests;
+#[cfg(test)]
+mod test_texts;
+#[cfg(test)]
 mod tests;
+#[cfg(test)]
+mod value_tests;

@@ -12,7 +12,7 @@ use crate::values::{is_kept, number_at, value_of};
 use toml::{Table, Value};
 
 /// The addresses from a start on.
-#[derive(Clone, Copy, Debug)]
+#[derive(Clone, Copy)]
 pub(crate) struct Span {
     /// The first address.
     pub(crate) start: u32,
