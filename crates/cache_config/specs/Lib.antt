@@ -7,3 +7,4 @@ pub mod Faults
 pub mod Rows
 pub mod Firsts
 pub mod Profiles
+pub mod Defaults

@@ -1,7 +1,9 @@
 //! The profile that a text gives.
 
-ghost use Rattle.std.specs.Prelude.{◌≡◌, ◌≤◌, [], Some, All, AllPairs, IfErr, IfNone, IfOk, IfSome, OnOk, ℕ, false, length, map};
+ghost use Rattle.std.specs.Prelude.{◌≡◌, ◌≤◌, [], Some, All, AllPairs, IfErr, IfNone, IfOk, IfSome, MatchResult, OnOk, ℕ, false, length, map};
 ghost use Rattle.toml.specs.View.{table_view, view};
+ghost use Rattle.cache_config.specs.declared.fault.ConfigFault.{ConfigFault};
+ghost use Rattle.cache_config.specs.Defaults.{HasDefaults};
 ghost use Rattle.cache_config.specs.Faults.{is_misplaced, place_faults, profile_faults, region_faults, shape_faults};
 ghost use Rattle.cache_config.specs.Keys.{gp_row};
 ghost use Rattle.cache_config.specs.Limits.{AreApart};
@@ -161,6 +163,16 @@ fn check_table(alloc: Global, table: &Table) -> Result<(), ConfigFault>
     }
 }
 
+/// The profile that the text gives, or its first fault.
+fn read_text(alloc: Global, text: &[u8]) -> Result<Profile, ConfigFault>
+    ensures profile { IfOk result (IsProfileOf text.now) }
+    ensures fault { IfErr result (Tells text.now) }
+{
+    let table = read_table(alloc, text)?;
+    check_table(alloc, &table)?;
+    Ok(read_values(alloc, &table)?)
+}
+
 /// The profile that the text gives, or the text's first fault.
 ///
 /// `docs/FORMATS.md` lists the keys. A text that isn't UTF-8 or isn't TOML is a fault `Text`; an unknown
@@ -170,8 +182,8 @@ fn check_table(alloc: Global, table: &Table) -> Result<(), ConfigFault>
 pub fn read_profile(alloc: Global, text: &[u8]) -> Result<Profile, ConfigFault>
     ensures profile { IfOk result (IsProfileOf text.now) }
     ensures fault { IfErr result (Tells text.now) }
+    // The empty text gives the plain profile.
+    ensures plain { text.now ≡ [] → MatchResult result HasDefaults (λ e. e ≡ ConfigFault.Memory) }
 {
-    let table = read_table(alloc, text)?;
-    check_table(alloc, &table)?;
-    Ok(read_values(alloc, &table)?)
+    read_text(alloc, text)
 }
