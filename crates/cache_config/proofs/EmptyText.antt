@@ -29,8 +29,16 @@ no-members ms means = ap (λ o. unwrap_or o ms) (sym means.1 ∙ nothing)
 costs : (c : Cycles) → ReadsCosts no_members c → EachTakes 1 c
 costs c reads =
     record {
-      alu = reads.alu; shift = reads.shift; mult = reads.mult; div = reads.div; hilo = reads.hilo;
-      load = reads.load; store = reads.store; branch = reads.branch; jump = reads.jump; stop = reads.stop;
+      alu = reads.alu;
+      shift = reads.shift;
+      mult = reads.mult;
+      div = reads.div;
+      hilo = reads.hilo;
+      load = reads.load;
+      store = reads.store;
+      branch = reads.branch;
+      jump = reads.jump;
+      stop = reads.stop;
     }
 
 no-regions : (regions : List Region) → map (λ r. Some (span r)) regions ≡ [] → regions ≡ []

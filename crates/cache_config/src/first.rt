@@ -8,7 +8,9 @@ ghost use Rattle.cache_config.specs.Firsts.{first_of};
 
 use crate::checks::{note_at, note_table};
 use crate::fault::{Fault, FaultKind, note};
-use crate::keys::{COSTS, CYCLES, PROFILE, REGION, REGIONS, STACK_SIZE, STACK_TOP, START};
+use crate::keys::{
+    CYCLES, REGION, STACK_SIZE, STACK_TOP, START, cost_keys, profile_keys, region_keys,
+};
 use crate::paths::{element_path, element_prefix};
 use crate::spans::{Span, is_misplaced, span_of, stack_of};
 use crate::values::{elements_at, is_kept, table_at, value_of};
@@ -62,7 +64,7 @@ fn note_shape(
     match value.as_table() {
         Some(table) => {
             let prefix = element_prefix(alloc, at)?;
-            note_table(alloc, prefix.as_str(), &REGIONS, table, first)
+            note_table(alloc, prefix.as_str(), region_keys(), table, first)
         }
         None => {
             let path = element_path(alloc, at)?;
@@ -115,10 +117,10 @@ pub(crate) fn first_fault(alloc: Global, table: &Table) -> Result<Option<Fault>,
     ensures { IfOk result (λ first. first ≡ first_of None (profile_faults (table_view table.now))) }
 {
     let mut first = None;
-    note_table(alloc, "", &PROFILE, table, &mut first)?;
+    note_table(alloc, "", profile_keys(), table, &mut first)?;
     let empty = Table::new(alloc);
     let costs = table_at(table, CYCLES.name, &empty);
-    note_table(alloc, "cycles.", &COSTS, costs, &mut first)?;
+    note_table(alloc, "cycles.", cost_keys(), costs, &mut first)?;
     note_stack(alloc, table, &mut first)?;
     let values = elements_at(table, REGION.name);
     note_regions(alloc, stack_of(table), values, &mut first)?;

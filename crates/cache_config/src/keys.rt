@@ -1,5 +1,9 @@
 //! The key table: what may stand at each key of a profile's text.
 
+ghost use Rattle.std.specs.Prelude.{◌≡◌, map};
+ghost use Rattle.cache_config.specs.Keys.{cost_rows, profile_rows, region_rows};
+ghost use Rattle.cache_config.specs.Rows.{row_of};
+
 /// What may stand at a key.
 #[derive(Clone, Copy)]
 pub(crate) enum Kind {
@@ -72,8 +76,8 @@ pub(crate) const CACHE: Key = Key { name: "cache", kind: Kind::Unread, absent: A
 #[rattlefmt::skip]
 pub(crate) const REGION: Key = Key { name: "region", kind: Kind::Regions, absent: Absent::Nothing };
 
-/// The keys of a profile.
-pub(crate) const PROFILE: [Key; 11] = [
+/// The keys of a profile, in the order of the rows.
+static PROFILE: [Key; 11] = [
     MEMORY, STORE, SPLITS, STEPS, STACK_TOP, STACK_SIZE, GP, ENTRY, CYCLES, CACHE, REGION,
 ];
 
@@ -108,7 +112,7 @@ pub(crate) const JUMP: Key = Key { name: "jump", kind: Kind::Number { least: 1, 
 pub(crate) const STOP: Key = Key { name: "stop", kind: Kind::Number { least: 1, most: 1_000_000 }, absent: Absent::Default(1) };
 
 /// The keys of the table `cycles`.
-pub(crate) const COSTS: [Key; 10] = [
+static COSTS: [Key; 10] = [
     ALU, SHIFT, MULT, DIV, MOVE, LOAD, STORES, BRANCH, JUMP, STOP,
 ];
 
@@ -119,4 +123,25 @@ pub(crate) const START: Key = Key { name: "start", kind: Kind::Number { least: 0
 pub(crate) const SIZE: Key = Key { name: "size", kind: Kind::Number { least: 1, most: 16_777_216 }, absent: Absent::Required };
 
 /// The keys of each table in the array `region`.
-pub(crate) const REGIONS: [Key; 2] = [START, SIZE];
+static REGIONS: [Key; 2] = [START, SIZE];
+
+/// The keys of a profile.
+pub(crate) fn profile_keys() -> &'static [Key]
+    ensures { map row_of result.now ≡ profile_rows }
+{
+    &PROFILE
+}
+
+/// The keys of the table `cycles`.
+pub(crate) fn cost_keys() -> &'static [Key]
+    ensures { map row_of result.now ≡ cost_rows }
+{
+    &COSTS
+}
+
+/// The keys of each table in the array `region`.
+pub(crate) fn region_keys() -> &'static [Key]
+    ensures { map row_of result.now ≡ region_rows }
+{
+    &REGIONS
+}
