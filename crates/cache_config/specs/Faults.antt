@@ -23,11 +23,14 @@ printed byte = if nat_le 0x21 byte && nat_le byte 0x7E then byte else 0x3F
 abbrev pub path_of : List ℕ → List ℕ → List ℕ
 path_of prefix name = prefix ++ map printed name
 
+abbrev pub fault_at : FaultKind → List ℕ → Fault
+fault_at what p = record { kind = what; path = p }
+
 abbrev pub key_fault : List ℕ → Fault
-key_fault p = record { kind = Key; path = p }
+key_fault = fault_at Key
 
 abbrev pub range_fault : List ℕ → Fault
-range_fault p = record { kind = Range; path = p }
+range_fault = fault_at Range
 
 -- The names of the keys of a table.
 abbrev pub names : Members → List (List ℕ)

@@ -1,5 +1,5 @@
 -- The first of the faults seen so far.
-use Rattle.std.specs.Prelude.{List, [], ◌∷◌, Option, Some, None, if◌then◌else◌}
+use Rattle.std.specs.Prelude.{◌≡◌, List, [], ◌∷◌, Option, Some, None, if◌then◌else◌}
 use Rattle.cache_config.specs.declared.fault.Fault.{Fault}
 use Rattle.cache_config.specs.Faults.{is_before}
 
@@ -12,3 +12,7 @@ earlier (Some known) fault = if is_before fault known then Some fault else Some 
 abbrev pub first_of : Option Fault → List Fault → Option Fault
 first_of seen [] = seen
 first_of seen (fault ∷ faults) = first_of (earlier seen fault) faults
+
+-- The faults were noted: the first one so far became the first of all.
+abbrev pub Notes : Option Fault → List Fault → Option Fault → Type 0
+Notes before faults after = after ≡ first_of before faults

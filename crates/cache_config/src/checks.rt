@@ -2,8 +2,8 @@
 
 ghost use Rattle.std.specs.Prelude.{◌≡◌, ◌∷◌, [], OnOk, flat_map, map};
 ghost use Rattle.toml.specs.View.{table_view};
-ghost use Rattle.cache_config.specs.Faults.{is_known, path_of, row_faults, table_faults, unknown_fault, unknown_faults};
-ghost use Rattle.cache_config.specs.Firsts.{earlier, first_of};
+ghost use Rattle.cache_config.specs.Faults.{fault_at, is_known, path_of, row_faults, table_faults, unknown_fault, unknown_faults};
+ghost use Rattle.cache_config.specs.Firsts.{Notes};
 ghost use Rattle.cache_config.specs.Rows.{row_of};
 
 use crate::fault::{Fault, FaultKind, note};
@@ -33,7 +33,7 @@ pub(crate) fn note_at(
     kind: FaultKind,
     first: &mut Option<Fault>,
 ) -> Result<(), AllocError>
-    ensures { OnOk result (first.new ≡ earlier first.old (record { kind = kind; path = path_of prefix.now name.now })) }
+    ensures { OnOk result (Notes first.old (fault_at kind (path_of prefix.now name.now) ∷ []) first.new) }
 {
     let path = path_of(alloc, prefix, name)?;
     note(first, Fault { kind, path });
@@ -48,7 +48,7 @@ fn note_name(
     name: &str,
     first: &mut Option<Fault>,
 ) -> Result<(), AllocError>
-    ensures { OnOk result (first.new ≡ first_of first.old (unknown_fault prefix.now (map row_of keys.now) name.now)) }
+    ensures { OnOk result (Notes first.old (unknown_fault prefix.now (map row_of keys.now) name.now) first.new) }
 {
     if is_known(keys, name) {
         return Ok(());
@@ -64,7 +64,7 @@ fn note_row(
     table: &Table,
     first: &mut Option<Fault>,
 ) -> Result<(), AllocError>
-    ensures { OnOk result (first.new ≡ first_of first.old (row_faults prefix.now (table_view table.now) (row_of key.now))) }
+    ensures { OnOk result (Notes first.old (row_faults prefix.now (table_view table.now) (row_of key.now)) first.new) }
 {
     match member(table, key.name) {
         Some(value) => {
@@ -90,7 +90,8 @@ fn note_unknown(
     table: &Table,
     first: &mut Option<Fault>,
 ) -> Result<(), AllocError>
-    ensures { OnOk result (first.new ≡ first_of first.old (unknown_faults prefix.now (map row_of keys.now) (table_view table.now))) }
+    ensures { let faults = unknown_faults prefix.now (map row_of keys.now) (table_view table.now) in
+        OnOk result (Notes first.old faults first.new) }
 {
     'names: for (name, _value) in table.iter() {
         note_name(alloc, prefix, keys, name.as_str(), first)?;
@@ -107,7 +108,8 @@ fn note_rows(
     table: &Table,
     first: &mut Option<Fault>,
 ) -> Result<(), AllocError>
-    ensures { OnOk result (first.new ≡ first_of first.old (flat_map (row_faults prefix.now (table_view table.now)) (map row_of keys.now))) }
+    ensures { let faults = flat_map (row_faults prefix.now (table_view table.now)) (map row_of keys.now) in
+        OnOk result (Notes first.old faults first.new) }
 {
     'rows: for key in keys {
         note_row(alloc, prefix, key, table, first)?;
@@ -124,7 +126,8 @@ pub(crate) fn note_table(
     table: &Table,
     first: &mut Option<Fault>,
 ) -> Result<(), AllocError>
-    ensures { OnOk result (first.new ≡ first_of first.old (table_faults prefix.now (map row_of keys.now) (table_view table.now))) }
+    ensures { let faults = table_faults prefix.now (map row_of keys.now) (table_view table.now) in
+        OnOk result (Notes first.old faults first.new) }
 {
     note_unknown(alloc, prefix, keys, table, first)?;
     note_rows(alloc, prefix, keys, table, first)

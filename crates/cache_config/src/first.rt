@@ -4,7 +4,7 @@ ghost use Rattle.std.specs.Prelude.{◌≡◌, ◌≤◌, None, IfOk, OnOk, leng
 ghost use Rattle.toml.specs.Data.{no_members};
 ghost use Rattle.toml.specs.View.{table_view, view};
 ghost use Rattle.cache_config.specs.Faults.{element_faults, place_faults, profile_faults, region_faults, shape_faults, stack_faults};
-ghost use Rattle.cache_config.specs.Firsts.{first_of};
+ghost use Rattle.cache_config.specs.Firsts.{Notes};
 
 use crate::checks::{note_at, note_table};
 use crate::fault::{Fault, FaultKind, note};
@@ -19,7 +19,7 @@ use toml::{Table, Value};
 
 /// Notes a stack whose top is less than its size, where both are within their limits.
 fn note_stack(alloc: Global, table: &Table, first: &mut Option<Fault>) -> Result<(), AllocError>
-    ensures { OnOk result (first.new ≡ first_of first.old (stack_faults (table_view table.now))) }
+    ensures { OnOk result (Notes first.old (stack_faults (table_view table.now)) first.new) }
 {
     let top = value_of(table, &STACK_TOP);
     let size = value_of(table, &STACK_SIZE);
@@ -40,7 +40,7 @@ fn note_place(
     span: Option<Span>,
     first: &mut Option<Fault>,
 ) -> Result<(), AllocError>
-    ensures { OnOk result (first.new ≡ first_of first.old (place_faults stack (map view earlier.now) at span)) }
+    ensures { OnOk result (Notes first.old (place_faults stack (map view earlier.now) at span) first.new) }
 {
     let Some(span) = span else {
         return Ok(());
@@ -59,7 +59,7 @@ fn note_shape(
     value: &Value,
     first: &mut Option<Fault>,
 ) -> Result<(), AllocError>
-    ensures { OnOk result (first.new ≡ first_of first.old (shape_faults at (view value.now))) }
+    ensures { OnOk result (Notes first.old (shape_faults at (view value.now)) first.new) }
 {
     match value.as_table() {
         Some(table) => {
@@ -86,7 +86,8 @@ fn note_element(
     first: &mut Option<Fault>,
 ) -> Result<(), AllocError>
     requires { at ≤ length values.now }
-    ensures { OnOk result (first.new ≡ first_of first.old (element_faults stack (map view values.now) at (view value.now))) }
+    ensures { let faults = element_faults stack (map view values.now) at (view value.now) in
+        OnOk result (Notes first.old faults first.new) }
 {
     note_shape(alloc, at, value, first)?;
     if values.len() > 16 {
@@ -103,7 +104,7 @@ fn note_regions(
     values: &[Value],
     first: &mut Option<Fault>,
 ) -> Result<(), AllocError>
-    ensures { OnOk result (first.new ≡ first_of first.old (region_faults stack (map view values.now))) }
+    ensures { OnOk result (Notes first.old (region_faults stack (map view values.now)) first.new) }
 {
     for at in 0..values.len() {
         note_element(alloc, stack, values, at, &values[at], first)?;
@@ -114,7 +115,7 @@ fn note_regions(
 /// The first fault of a profile's text.
 #[tactic(auto, using(crate::proofs::FirstLemmas::appended))]
 pub(crate) fn first_fault(alloc: Global, table: &Table) -> Result<Option<Fault>, AllocError>
-    ensures { IfOk result (λ first. first ≡ first_of None (profile_faults (table_view table.now))) }
+    ensures { IfOk result (Notes None (profile_faults (table_view table.now))) }
 {
     let mut first = None;
     note_table(alloc, "", profile_keys(), table, &mut first)?;

@@ -70,7 +70,9 @@ fn read_gp(table: &Table) -> Option<u32>
 fn read_region(stack: Span, earlier: &[Value], value: &Value) -> Option<Region>
     ensures span { IfSome result (λ r. Some (span r) ≡ span_of (view value.now)) }
     ensures placed { IfSome result (λ r. is_misplaced (Some stack) (map view earlier.now) (span r) ≡ false) }
-    ensures none { IfNone result ((at : ℕ) → shape_faults at (view value.now) ≡ [] → place_faults (Some stack) (map view earlier.now) at (span_of (view value.now)) ≡ [] → ⊥) }
+    ensures none { IfNone result (
+        (at : ℕ) → shape_faults at (view value.now) ≡ []
+        → place_faults (Some stack) (map view earlier.now) at (span_of (view value.now)) ≡ [] → ⊥) }
 {
     let Some(span) = span_of(value) else {
         return None;
