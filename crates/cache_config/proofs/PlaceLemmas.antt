@@ -1,13 +1,14 @@
 -- Spans that don't meet are apart.
-use Rattle.std.proofs.Common.{◌≡◌, ℕ, ◌+◌, ◌<◌, ◌≤◌, Bool, true, false, ◌&&◌, ◌||◌, nat_lt, List, [], ◌∷◌, length, map, get_or, drop, Option, Some, None, refl, ap, arith, unwrap_or, is_some, sym, subst}
-use Rattle.std.proofs.lemmas.Bool.{or_parts}
+use Rattle.std.proofs.Common.{◌≡◌, ℕ, ◌+◌, ◌<◌, ◌≤◌, Bool, true, false, ◌&&◌, ◌||◌, nat_lt, List, [], ◌∷◌, length, map, get_or, drop, Option, Some, None, refl, ap, arith, unwrap_or, is_some, sym, subst, max}
+use Rattle.std.proofs.lemmas.Bool.{and_parts, or_parts}
 use Rattle.std.proofs.lemmas.Bool.Decides.{nat_tests}
 use Rattle.std.proofs.lemmas.List.Elements.{All-nil, All-cons}
+use Rattle.std.specs.Bool.{OnTrue}
 use Rattle.std.specs.List.{All, list_any}
 use Rattle.toml.specs.Data.{Data}
 use Rattle.cache_config.specs.declared.profile.Region.{Region}
 use Rattle.cache_config.specs.declared.spans.Span.{Span}
-use Rattle.cache_config.specs.Faults.{is_misplaced, meets, meets_some}
+use Rattle.cache_config.specs.Faults.{SharesAddress, is_misplaced, meets, meets_some}
 use Rattle.cache_config.specs.Limits.{AreApart, Covers, memory_end}
 use Rattle.cache_config.specs.Profiles.{span}
 use Rattle.cache_config.specs.Values.{span_of}
@@ -47,3 +48,21 @@ placed stack regions ds r e h =
     let (low, others) = or_parts (nat_lt memory_end (r.start + r.size)) (meets_some (span r) (Some stack) || list_any (λ d. meets_some (span r) (span_of d)) ds) h in
     let (off, earlier) = or_parts (meets_some (span r) (Some stack)) (list_any (λ d. meets_some (span r) (span_of d)) ds) others in
     record { off_stack = meets-apart (span r) stack off; apart = earlier-apart r regions ds e earlier }
+
+-- Two spans that meet share an address: the greater of their starts.
+pub meets-shared : (s t : Span) → meets s t ≡ true → 1 ≤ s.size → 1 ≤ t.size → SharesAddress s t
+meets-shared s t e some other =
+    let (first, second) = and_parts (nat_lt s.start (t.start + t.size)) (nat_lt t.start (s.start + s.size)) e in
+    record {
+      address = max s.start t.start;
+      here = (omega arith, grind (arith, nat_tests));
+      there = (omega arith, grind (arith, nat_tests));
+    }
+
+-- The same of the second test, where the first one held.
+pub second-shared : (s t : Span) (b : Bool) → s.start < t.start + t.size → b ≡ nat_lt t.start (s.start + s.size) →
+    OnTrue b (1 ≤ s.size → 1 ≤ t.size → SharesAddress s t)
+second-shared s t false low e = tt
+second-shared s t true low e =
+    let first : nat_lt s.start (t.start + t.size) ≡ true = grind (arith, nat_tests) in
+    meets-shared s t (rw (first, ← e) refl)

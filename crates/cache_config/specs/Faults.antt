@@ -12,7 +12,7 @@ use Rattle.cache_config.specs.declared.keys.Absent.{Absent}
 use Rattle.cache_config.specs.declared.keys.Absent.TheVariants.{Default, Nothing, Required}
 use Rattle.cache_config.specs.declared.spans.Span.{Span}
 use Rattle.cache_config.specs.Keys.{Row, cost_rows, profile_rows, region_rows, stack_size_row, stack_top_row, start_row}
-use Rattle.cache_config.specs.Limits.{memory_end, most_regions}
+use Rattle.cache_config.specs.Limits.{Covers, memory_end, most_regions}
 use Rattle.cache_config.specs.Values.{costs_of, fits, is_kept, regions_of, span_of, stack_of, value_of}
 
 -- A byte of a key as it is printed: itself from 21 to 7E (hexadecimal), else a question mark.
@@ -80,7 +80,13 @@ element_path at = codes "region[" ++ decimal at ++ codes "]"
 abbrev pub element_prefix : ℕ → List ℕ
 element_prefix at = codes "region[" ++ decimal at ++ codes "]."
 
--- The two spans, none of them empty, share an address: each begins before the other one's end.
+-- The two spans share an address.
+pub record SharesAddress (s t : Span) : Type 0 where
+  pub address : ℕ
+  pub here : Covers s.start s.size address
+  pub there : Covers t.start t.size address
+
+-- The same as a test, of spans that aren't empty: each begins before the other one's end.
 abbrev pub meets : Span → Span → Bool
 meets s t = nat_lt s.start (t.start + t.size) && nat_lt t.start (s.start + s.size)
 

@@ -1,10 +1,11 @@
 //! Spans of addresses, as the text of a profile gives them.
 
 ghost use Rattle.std.specs.Prelude.{◌≡◌, ◌<◌, ◌≤◌, IfSome, false, map};
+ghost use Rattle.std.specs.Bool.{OnFalse, OnTrue};
 ghost use Rattle.std.specs.List.{list_any};
 ghost use Rattle.toml.specs.View.{table_view, view};
-ghost use Rattle.cache_config.specs.Faults.{is_misplaced, meets, meets_some};
-ghost use Rattle.cache_config.specs.Limits.{memory_end, most_bytes};
+ghost use Rattle.cache_config.specs.Faults.{SharesAddress, is_misplaced, meets, meets_some};
+ghost use Rattle.cache_config.specs.Limits.{AreApart, memory_end, most_bytes};
 ghost use Rattle.cache_config.specs.Values.{span_in, span_of, stack_of};
 
 use crate::keys::{SIZE, STACK_SIZE, STACK_TOP, START};
@@ -68,7 +69,9 @@ pub(crate) fn span_of(value: &Value) -> Option<Span>
 
 /// Whether two spans share an address, where none of them is empty.
 fn meets(span: Span, other: Span) -> bool
-    ensures { result ≡ meets span other }
+    ensures value { result ≡ meets span other }
+    ensures shared { OnTrue result (1 ≤ span.size → 1 ≤ other.size → SharesAddress span other) }
+    ensures apart { OnFalse result (AreApart other.start other.size span.start span.size) }
 {
     let end = u64::from(span.start) + u64::from(span.size);
     let other_end = u64::from(other.start) + u64::from(other.size);
