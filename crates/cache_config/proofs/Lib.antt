@@ -6,4 +6,4 @@ pub mod EmptyLemmas
 pub mod PlaceLemmas
 pub mod RegionLoop
 pub mod FaultlessLemmas
-pub mod EmptyText
+pub mod TextLemmas

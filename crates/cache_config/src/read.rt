@@ -184,6 +184,8 @@ fn read_text(alloc: Global, text: &[u8]) -> Result<Profile, ConfigFault>
 pub fn read_profile(alloc: Global, text: &[u8]) -> Result<Profile, ConfigFault>
     ensures profile { IfOk result (IsProfileOf text.now) }
     ensures fault { IfErr result (Tells text.now) }
+    // Where a profile is given, no fault is told: each kind comes exactly where the text has it.
+    ensures clean { OnOk result ((e : ConfigFault) → Tells text.now e → e ≡ ConfigFault.Memory) }
     // The empty text gives the plain profile.
     ensures plain { text.now ≡ [] → MatchResult result HasDefaults (λ e. e ≡ ConfigFault.Memory) }
 {
