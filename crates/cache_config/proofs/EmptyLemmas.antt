@@ -1,5 +1,5 @@
 -- What follows where there are no faults.
-use Rattle.std.proofs.Common.{◌≡◌, ℕ, ◌+◌, ◌-◌, ◌<◌, ◌≤◌, Bool, true, false, ◌&&◌, ◌||◌, le-leb, List, [], ◌∷◌, ◌++◌, length, map, get_or, take, drop, Option, Some, None, refl, sym, ◌∙◌, ap, if◌then◌else◌, is_some, option_and_then}
+use Rattle.std.proofs.Common.{◌≡◌, ℕ, ◌+◌, ◌-◌, ◌<◌, ◌≤◌, Bool, true, false, le-leb, List, [], ◌∷◌, ◌++◌, length, map, get_or, take, drop, Option, Some, None, refl, sym, ◌∙◌, if◌then◌else◌, is_some, option_and_then}
 use Rattle.std.proofs.lemmas.Bool.{false≢true}
 use Rattle.std.proofs.lemmas.List.{length-map, take-map, drop_more}
 use Rattle.toml.specs.Data.{Data, Members, as_table, get_member}
@@ -9,8 +9,8 @@ use Rattle.cache_config.specs.declared.fault.Fault.{Fault}
 use Rattle.cache_config.specs.declared.keys.Kind.TheVariants.{Number}
 use Rattle.cache_config.specs.declared.keys.Absent.TheVariants.{Required}
 use Rattle.cache_config.specs.declared.spans.Span.{Span}
-use Rattle.cache_config.specs.Keys.{Row, region_rows, row, size_row, start_row}
-use Rattle.cache_config.specs.Faults.{element_faults, element_prefix, numbered, place_faults, row_faults, shape_by, shape_faults, table_faults, unknown_faults, value_faults}
+use Rattle.cache_config.specs.Keys.{region_rows, row, size_row, start_row}
+use Rattle.cache_config.specs.Faults.{element_faults, element_prefix, numbered, place_faults, row_faults, shape_by, shape_faults, unknown_faults, value_faults}
 use Rattle.cache_config.specs.Limits.{memory_end, most_bytes}
 use Rattle.cache_config.specs.Values.{number_at, number_of, span_by, span_in, span_of}
 use Rattle.std.specs.Prelude.{flat_map}

@@ -1,5 +1,5 @@
 -- The first fault of several lists of faults, one after another.
-use Rattle.std.proofs.Common.{◌≡◌, ℕ, ◌+◌, ◌<◌, ◌≤◌, Bool, true, false, le-leb, List, [], ◌∷◌, ◌++◌, length, map, get_or, take, drop, Option, Some, None, refl, sym, ◌∙◌, ap}
+use Rattle.std.proofs.Common.{◌≡◌, ℕ, ◌+◌, ◌<◌, ◌≤◌, le-leb, List, [], ◌∷◌, ◌++◌, length, map, get_or, take, drop, Option, refl, sym, ◌∙◌}
 use Rattle.std.proofs.lemmas.List.{length-map, take-map, drop_more}
 use Rattle.toml.specs.Data.{Data}
 use Rattle.toml.specs.View.{view}

@@ -1,5 +1,5 @@
 -- The first of a list of faults is one of them, and none comes before it.
-use Rattle.std.proofs.Common.{◌≡◌, ◌≢◌, ℕ, Bool, true, false, List, [], ◌∷◌, Option, Some, None, Ordering, Less, Equal, Greater, nat_cmp, refl, sym, ◌∙◌, ap, ◌⊎◌, inl, inr, subst, if◌then◌else◌, unwrap_or, is_some}
+use Rattle.std.proofs.Common.{◌≡◌, ℕ, Bool, true, false, List, [], ◌∷◌, Some, None, Ordering, Less, Equal, Greater, nat_cmp, refl, sym, ◌∙◌, ap, ◌⊎◌, inl, inr, subst, if◌then◌else◌, unwrap_or, is_some}
 use Rattle.std.proofs.lemmas.Bool.{false≢true}
 use Rattle.std.proofs.lemmas.Cmp.{nat_list_cmp_total, upto, tied_itself}
 use Rattle.std.proofs.lemmas.List.Elements.{All-nil, All-cons, Contains-append_left, Contains-append_right, Contains-push}
@@ -9,7 +9,7 @@ use Rattle.std.specs.Ordering.{is_lt, is_gt, ordering_reverse}
 use Rattle.cache_config.specs.declared.fault.Fault.{Fault}
 use Rattle.cache_config.specs.declared.fault.FaultKind.{FaultKind}
 use Rattle.cache_config.specs.Faults.{IsFirst, is_before, rank}
-use Rattle.cache_config.specs.Firsts.{earlier, first_of}
+use Rattle.cache_config.specs.Firsts.{first_of}
 
 -- What faults are compared by: the kind and then the path.
 abbrev code : Fault → List ℕ

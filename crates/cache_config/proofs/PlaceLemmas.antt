@@ -1,5 +1,5 @@
 -- Spans that don't meet are apart.
-use Rattle.std.proofs.Common.{◌≡◌, ℕ, ◌+◌, ◌<◌, ◌≤◌, Bool, true, false, ◌&&◌, ◌||◌, nat_lt, List, [], ◌∷◌, length, map, get_or, drop, Option, Some, None, refl, ap, arith, unwrap_or, is_some, sym, subst, max}
+use Rattle.std.proofs.Common.{◌≡◌, ◌+◌, ◌<◌, ◌≤◌, Bool, true, false, ◌||◌, nat_lt, List, [], ◌∷◌, map, get_or, drop, Option, Some, None, refl, ap, arith, unwrap_or, is_some, sym, subst, max}
 use Rattle.std.proofs.lemmas.Bool.{and_parts, or_parts}
 use Rattle.std.proofs.lemmas.Bool.Decides.{nat_tests}
 use Rattle.std.proofs.lemmas.List.Elements.{All-nil, All-cons}
@@ -9,7 +9,7 @@ use Rattle.toml.specs.Data.{Data}
 use Rattle.cache_config.specs.declared.profile.Region.{Region}
 use Rattle.cache_config.specs.declared.spans.Span.{Span}
 use Rattle.cache_config.specs.Faults.{SharesAddress, is_misplaced, meets, meets_some}
-use Rattle.cache_config.specs.Limits.{AreApart, Covers, memory_end}
+use Rattle.cache_config.specs.Limits.{AreApart, memory_end}
 use Rattle.cache_config.specs.Profiles.{span}
 use Rattle.cache_config.specs.Values.{span_of}
 

@@ -1,11 +1,9 @@
 -- A text that gives a profile has no fault, and the empty text gives the plain profile.
-use Rattle.std.proofs.Common.{◌≡◌, ℕ, ◌<◌, List, [], ◌∷◌, length, map, Option, Some, None, refl, sym, ◌∙◌, ap, subst, arith, unwrap_or, Result, Ok, Err, IfOk, IfErr, MatchResult, OnOk}
-use Rattle.std.proofs.lemmas.List.{length-map}
+use Rattle.std.proofs.Common.{◌≡◌, ℕ, List, [], ◌∷◌, map, Some, refl, sym, ◌∙◌, ap, subst, arith, unwrap_or, Result, Ok, Err, IfOk, IfErr, MatchResult, OnOk}
 use Rattle.toml.proofs.OnLiterals.{toml_on_literals}
 use Rattle.toml.specs.Data.{Members, no_members}
 use Rattle.toml.specs.Parse.{parse_document}
 use Rattle.std.proofs.lemmas.Str.{IsUtf8-nil}
-use Rattle.std.specs.List.{Contains}
 use Rattle.cache_config.specs.declared.fault.ConfigFault.{ConfigFault}
 use Rattle.cache_config.specs.declared.fault.ConfigFault.TheVariants.{Text, Key, Range, Memory}
 use Rattle.cache_config.specs.declared.fault.Fault.{Fault}

@@ -1,5 +1,5 @@
 -- The profile with the default of each number.
-use Rattle.std.specs.Prelude.{◌≡◌, ℕ, [], None, false}
+use Rattle.std.specs.Prelude.{◌≡◌, [], None, false}
 use Rattle.cache_config.specs.Costs.{EachTakes}
 use Rattle.cache_config.specs.declared.profile.Profile.{Profile}
 

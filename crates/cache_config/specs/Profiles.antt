@@ -1,5 +1,5 @@
 -- What a text says of a profile: the profile that it gives, or its fault.
-use Rattle.std.specs.Prelude.{◌≡◌, ℕ, List, [], Option, Some, map, IsUtf8}
+use Rattle.std.specs.Prelude.{◌≡◌, ℕ, List, [], Some, map, IsUtf8}
 use Rattle.toml.specs.Data.{Members}
 use Rattle.toml.specs.Parse.{parse_document}
 use Rattle.cache_config.specs.declared.fault.ConfigFault.{ConfigFault}

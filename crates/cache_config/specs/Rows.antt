@@ -1,5 +1,5 @@
 -- The rows of the key table that the code holds.
-use Rattle.std.specs.Prelude.{◌≡◌, ℕ, ◌<◌, ◌≤◌, ◌%◌, ⊤}
+use Rattle.std.specs.Prelude.{◌≡◌, ℕ, ◌≤◌, ◌%◌, ⊤}
 use Rattle.cache_config.specs.declared.keys.Key.{Key}
 use Rattle.cache_config.specs.declared.keys.Kind.{Kind}
 use Rattle.cache_config.specs.declared.keys.Kind.TheVariants.{Number, Eights, Text, Costs, Regions, Unread}

@@ -1,10 +1,7 @@
-use Rattle.std.proofs.Common.{◌≡◌, Some, None, ap, sym, ◌∙◌}
+use Rattle.std.proofs.Common.{sym, ◌∙◌}
 use Rattle.toml.specs.View.{table_view}
-use Rattle.cache_config.specs.declared.fault.Fault.{Fault}
-use Rattle.cache_config.specs.declared.fault.FaultKind.{FaultKind}
 use Rattle.cache_config.specs.declared.fault.FaultKind.TheVariants.{Key, Range}
 use Rattle.cache_config.specs.Faults.{profile_faults}
-use Rattle.cache_config.specs.Firsts.{first_of}
 use Rattle.cache_config.proofs.OrderLemmas.{first_of-none, first_of-kind}
 use Rattle.cache_config.proofs.read.check_table.Goals as goal
 

@@ -1,4 +1,4 @@
-use Rattle.std.proofs.Common.{◌≡◌, ◌≤◌, Some, ap, is_some, length, rules, sym, ◌∙◌}
+use Rattle.std.proofs.Common.{ap, is_some, rules, sym, ◌∙◌}
 use Rattle.std.proofs.lemmas.Bool.{false≢true}
 use Rattle.std.proofs.lemmas.List.{length-map}
 use Rattle.toml.specs.View.{table_view, view}

@@ -1,4 +1,4 @@
-use Rattle.std.proofs.Common.{refl, rules}
+use Rattle.std.proofs.Common.{rules}
 use Rattle.cache_config.proofs.PlaceLemmas.{second-shared}
 use Rattle.cache_config.proofs.spans.meets.Goals as goal
 
