@@ -110,6 +110,14 @@ fn values_of_another_kind(rt: HostRuntime) -> Result<(), Fail> {
         "stack_size",
         "gp",
         "cycles.alu",
+        "cycles.shift",
+        "cycles.mult",
+        "cycles.div",
+        "cycles.move",
+        "cycles.load",
+        "cycles.store",
+        "cycles.branch",
+        "cycles.jump",
         "cycles.stop",
     ] {
         for value in [
@@ -155,6 +163,18 @@ fn texts_tables_and_arrays_of_another_kind(rt: HostRuntime) -> Result<(), Fail> 
         ("region = [1]", "range region[0]"),
         ("region = [{ start = 0, size = 1 }, []]", "range region[1]"),
         ("region = [[{ zed = 1 }]]", "range region[0]"),
+        (
+            "region = [{ start = 1.0, size = 1 }]",
+            "range region[0].start",
+        ),
+        (
+            "region = [{ start = 0, size = \"1\" }]",
+            "range region[0].size",
+        ),
+        (
+            "region = [{ start = [], size = {} }]",
+            "range region[0].size",
+        ),
     ] {
         assert_eq!(rt; said(alloc, text.as_bytes())?.as_str(), want, "at {text}");
     }
