@@ -6,9 +6,9 @@ use Rattle.flow_net.specs.Paths.{IsRunPath}
 use Rattle.flow_net.specs.declared.net.Net.{Net}
 use Rattle.flow_net.specs.declared.net.NetArc.{NetArc}
 use Rattle.flow_net.specs.declared.net.Place.{Place}
-use Rattle.mips_machine.specs.Machine.{Costs}
+use Rattle.cache_config.specs.Instructions.{Costs}
 use Rattle.net_model.specs.Units.{content_at}
-use Rattle.wcet_engine.specs.Costs.{content_cost}
+use Rattle.ipet_program.specs.Costs.{content_cost}
 
 -- An arc costs what the place costs that it goes to.
 abbrev pub arc_cost : (ℕ → ℕ) → Option NetArc → ℕ
