@@ -1,3 +1,7 @@
 -- Lemmas of this crate.
 pub mod Whole
 pub mod Totals
+pub mod Values
+pub mod Exchange
+pub mod LeafLaw
+pub mod CertificateLaw
