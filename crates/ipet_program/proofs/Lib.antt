@@ -5,3 +5,7 @@ pub mod Values
 pub mod Exchange
 pub mod LeafLaw
 pub mod CertificateLaw
+pub mod Numbered
+pub mod Terms
+pub mod RunSums
+pub mod RunCounts
