@@ -45,6 +45,15 @@ pub record IsTaken (columns : ℕ) (old new : List ℤ) (right times : ℤ) (row
   pub added : AreAdded columns old new (λ column. parts_in column times row)
   pub total_right : sum ≡ right +ℤ total (right_part times row)
 
+-- The row of a weight may be taken, and has been taken.
+pub record MayTakeWeight (program : Program) (cuts : List Side2) (sums : List ℤ) (right : ℤ) (weight : Weight) : Type 0 where
+  pub numbered : IsNumberOf (all_rows program cuts) weight.row
+  pub may : MayTake program.columns sums right weight.times (item_at weight.row (all_rows program cuts))
+
+pub record IsWeightTaken (program : Program) (cuts : List Side2) (old new : List ℤ) (right : ℤ) (weight : Weight) (sum : ℤ) : Type 0 where
+  pub numbered : IsNumberOf (all_rows program cuts) weight.row
+  pub taken : IsTaken program.columns old new right weight.times (item_at weight.row (all_rows program cuts)) sum
+
 -- The rows of these weights may be taken, from the sums and the right side on.
 pub record MayTakeAll (program : Program) (cuts : List Side2) (sums : List ℤ) (right : ℤ) (weights : List Weight) : Type 0 where
   pub rows : All (λ weight. IsNumberOf (all_rows program cuts) weight.row) weights
