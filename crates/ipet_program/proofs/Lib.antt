@@ -10,3 +10,4 @@ pub mod Terms
 pub mod RunSums
 pub mod RunCounts
 pub mod SumLemmas
+pub mod WeightLemmas

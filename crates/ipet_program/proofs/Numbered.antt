@@ -14,7 +14,7 @@ length-numbered f (suc n) =
     omega arith
 
 -- What a list has at a place stays there when more follows.
-get-front : {T : Type 0} (xs ys : List T) (i : ℕ) → i < length xs → slice_get (xs ++ ys) i ≡ slice_get xs i
+pub get-front : {T : Type 0} (xs ys : List T) (i : ℕ) → i < length xs → slice_get (xs ++ ys) i ≡ slice_get xs i
 get-front [] ys i less = absurd (omega arith)
 get-front (x ∷ xs) ys zero less = refl
 get-front (x ∷ xs) ys (suc i) less = get-front xs ys i (omega arith)

@@ -166,16 +166,23 @@ room-more {X = X} parts appends columns first middle last xs i d less one other 
     subst (λ (ys : List X). HaveRoom columns first last (parts ys)) (sym (take_more xs i d less))
     (room-join parts appends columns first middle last (take i xs) (get_or xs i d ∷ []) one other)
 
+pub fit-at : {X : Type 0} (parts : List X → ℕ → List ℤ) → Appends parts → (columns : ℕ)
+    (first middle : List ℤ) (xs : List X) (i : ℕ) (d : X) → i < length xs →
+    HaveRoom columns first middle (parts (take i xs)) → Fit columns first (parts xs) →
+    Fit columns middle (parts (get_or xs i d ∷ []))
+fit-at {X = X} parts appends columns first middle xs i d less one fit =
+    let split : xs ≡ take (i + 1) xs ++ drop (i + 1) xs = sym (take-append-drop (i + 1) xs) in
+    let front = fit-first parts appends columns first (take (i + 1) xs) (drop (i + 1) xs)
+    (subst (λ (ys : List X). Fit columns first (parts ys)) split fit) in
+    fit-later parts appends columns first middle (take i xs) (get_or xs i d ∷ []) one.added
+    (subst (λ (ys : List X). Fit columns first (parts ys)) (take_more xs i d less) front)
+
 pub fit-fails : {X : Type 0} (parts : List X → ℕ → List ℤ) → Appends parts → (columns : ℕ)
     (first middle : List ℤ) (xs : List X) (i : ℕ) (d : X) → i < length xs →
     HaveRoom columns first middle (parts (take i xs)) → (Fit columns middle (parts (get_or xs i d ∷ [])) → ⊥) →
     Fit columns first (parts xs) → ⊥
-fit-fails {X = X} parts appends columns first middle xs i d less one wide fit =
-    let split : xs ≡ take (i + 1) xs ++ drop (i + 1) xs = sym (take-append-drop (i + 1) xs) in
-    let front = fit-first parts appends columns first (take (i + 1) xs) (drop (i + 1) xs)
-    (subst (λ (ys : List X). Fit columns first (parts ys)) split fit) in
-    wide (fit-later parts appends columns first middle (take i xs) (get_or xs i d ∷ []) one.added
-    (subst (λ (ys : List X). Fit columns first (parts ys)) (take_more xs i d less) front))
+fit-fails parts appends columns first middle xs i d less one wide fit =
+    wide (fit-at parts appends columns first middle xs i d less one fit)
 
 -- ---- Rows.
 pub row-taken : (columns : ℕ) (old new : List ℤ) (right times sum : ℤ) (row : Row) → IsSigned times (Some row) →

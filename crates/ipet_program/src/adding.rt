@@ -136,7 +136,10 @@ pub fn add_weights(program: &Program, cuts: &[Side2], weights: &[Weight], sums: 
 {
     let mut right = 0;
     for weight in weights {
-        right = add_weight(program, cuts, *weight, sums, right)?;
+        let Some(sum) = add_weight(program, cuts, *weight, sums, right) else {
+            return None;
+        };
+        right = sum;
     }
     Some(right)
 }
