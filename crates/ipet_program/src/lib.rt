@@ -6,6 +6,7 @@ mod certificate;
 mod leaf;
 mod price;
 mod program;
+mod shows;
 
 pub use certificate::{Certificate, Count, Node};
 pub use leaf::{Leaf, Side2, Weight};
