@@ -11,3 +11,4 @@ pub mod RunSums
 pub mod RunCounts
 pub mod SumLemmas
 pub mod WeightLemmas
+pub mod ShowLemmas

@@ -87,3 +87,26 @@ fn show_none(columns: u32, sums: &[i128], right: i128) -> bool
 {
     right < 0 && none_negative(columns, sums)
 }
+
+/// Whether a leaf is valid under the cuts above it. `sums` is room for a number for each column; what it
+/// holds before doesn't matter. It takes no memory, and a step for each term of the rows that the leaf
+/// takes and for each place of `sums`.
+pub fn shows_leaf(program: &Program, cuts: &[Side2], bound: u64, leaf: &Leaf, sums: &mut [i128]) -> bool
+    requires checkable { IsCheckable program.now }
+    requires room { program.now.columns ≤ length sums.old }
+    ensures valid { OnTrue result (IsLeaf program.now cuts.now bound leaf.now) }
+    ensures invalid { OnFalse result (IsLeaf program.now cuts.now bound leaf.now → ⊥) }
+{
+    if leaf.denom < 1 {
+        return false;
+    }
+    clear(sums);
+    let Some(right) = add_weights(program, cuts, leaf.weights.as_slice(), sums) else {
+        return false;
+    };
+    if leaf.empty {
+        show_none(program.columns, sums, right)
+    } else {
+        show_bound(program, leaf.denom, bound, sums, right)
+    }
+}
