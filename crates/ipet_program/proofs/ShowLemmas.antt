@@ -1,6 +1,7 @@
 -- A leaf is valid where its rows may be taken and the sums show what it says.
 use Rattle.std.proofs.Common.{◌≡◌, ℕ, zero, suc, ◌+◌, ◌-◌, ◌≤◌, ◌<◌, Bool, true, false, List, [], ◌∷◌, length, get_or, slice_get, refl, sym, ap, ◌∙◌, subst, arith}
 use Rattle.std.specs.Prelude.{FitsSigned}
+use Rattle.std.specs.Bool.{OnFalse, OnTrue}
 use Rattle.std.specs.Int.{w128}
 use Rattle.std.proofs.lemmas.Int.{ints}
 use lib.IntN.{ℤ, pos, negsuc, ◌+ℤ◌, ◌*ℤ◌}
@@ -167,3 +168,12 @@ module _ (program : Program) (cuts : List Side2) (bound : ℕ) (leaf : Leaf) (ol
               let one = shows.columns (k + 1) (omega arith) inside in
               omega (arith, ints);
         }
+
+-- What follows from what a clause says of an answer.
+pub true-then : (b : Bool) {P Q : Type 0} → OnTrue b P → (P → Q) → OnTrue b Q
+true-then true h then = then h
+true-then false h then = h
+
+pub false-then : (b : Bool) {P Q : Type 0} → OnFalse b P → (P → Q) → OnFalse b Q
+false-then true h then = h
+false-then false h then = then h
