@@ -12,3 +12,4 @@ pub mod RunCounts
 pub mod SumLemmas
 pub mod WeightLemmas
 pub mod ShowLemmas
+pub mod ListedLemmas

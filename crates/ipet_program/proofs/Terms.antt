@@ -7,7 +7,7 @@ use Rattle.ipet_program.specs.Rows.{term_of, terms_of}
 use Rattle.ipet_program.specs.declared.program.Term.{Term}
 use Rattle.ipet_program.proofs.Totals.{total_to}
 
-row_sum-append : (counts : ℕ → ℕ) (terms others : List Term) →
+pub row_sum-append : (counts : ℕ → ℕ) (terms others : List Term) →
     row_sum counts (terms ++ others) ≡ row_sum counts terms +ℤ row_sum counts others
 row_sum-append counts [] others = omega (arith, ints)
 row_sum-append counts (term ∷ terms) others =

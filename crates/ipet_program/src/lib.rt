@@ -3,6 +3,7 @@
 
 mod adding;
 mod certificate;
+mod counts;
 mod leaf;
 mod price;
 mod program;
