@@ -1,17 +1,20 @@
 -- The counts that a list names.
-use Rattle.std.proofs.Common.{◌≡◌, ℕ, zero, suc, ◌+◌, ◌*◌, ◌<◌, ◌≤◌, Bool, true, false, List, [], ◌∷◌, ◌++◌, length, get_or, refl, sym, ap, ◌∙◌, subst, inl, inr, ◌⊎◌, arith}
+use Rattle.std.proofs.Common.{◌≡◌, ℕ, zero, suc, ◌+◌, ◌*◌, ◌<◌, ◌≤◌, Bool, true, false, List, [], ◌∷◌, ◌++◌, length, take, get_or, refl, sym, ap, ◌∙◌, subst, inl, inr, ◌⊎◌, arith}
 use Rattle.std.specs.Prelude.{◌==◌, ◌^◌, if◌then◌else◌, unsigned_abs, FitsSigned}
 use Rattle.std.specs.Int.{w128}
 use Rattle.std.proofs.Math.Nat.{mul-le-mul_left}
 use Rattle.std.specs.List.Sorted.{IsNonDecreasingBy}
-use Rattle.std.proofs.lemmas.Bool.{cases_lt}
+use Rattle.std.proofs.lemmas.Bool.{cases_lt, cases_order}
 use Rattle.std.proofs.lemmas.Bool.Decides.{nat_tests}
 use Rattle.std.proofs.lemmas.Int.{fits_signed_from_abs, ints, unsigned_abs-mul}
+use Rattle.std.proofs.lemmas.List.{length-take, take_more}
 use lib.IntN.{ℤ, pos, ◌+ℤ◌, ◌*ℤ◌}
-use Rattle.ipet_program.specs.Counts.{listed, Rise, value_from}
+use Rattle.ipet_program.specs.Counts.{listed, Rise, row_sum, value_from}
 use Rattle.ipet_program.specs.Programs.{IsSmall}
 use Rattle.ipet_program.specs.Programs.IsSmall.{above, below}
 use Rattle.ipet_program.specs.declared.certificate.Count.{Count}
+use Rattle.ipet_program.specs.declared.program.Term.{Term}
+use Rattle.ipet_program.proofs.Terms.{row_sum-append}
 
 listed-own : (count : Count) (more : List Count) (column : ℕ) → count.column ≡ column →
     listed (count ∷ more) column ≡ count.number
@@ -91,3 +94,37 @@ value_from-more start counts (value ∷ values) others =
     let same : value_from (suc start + length values) counts others
     ≡ value_from (start + suc (length values)) counts others = ap (λ (n : ℕ). value_from n counts others) e in
     omega (arith, ints)
+
+pub total-more : (counts : ℕ → ℕ) (terms : List Term) (i : ℕ) (d : Term) → i < length terms →
+    row_sum counts (take (i + 1) terms)
+    ≡ row_sum counts (take i terms) +ℤ (get_or terms i d).factor *ℤ pos (counts (get_or terms i d).column)
+total-more counts terms i d less =
+    let term = get_or terms i d in
+    let front = ap (row_sum counts) (take_more terms i d less) ∙ row_sum-append counts (take i terms) (term ∷ []) in
+    omega (arith, ints)
+
+pub value-more : (counts : ℕ → ℕ) (values : List ℤ) (i : ℕ) → i < length values →
+    value_from 1 counts (take (i + 1) values)
+    ≡ value_from 1 counts (take i values) +ℤ get_or values i (pos 0) *ℤ pos (counts (i + 1))
+value-more counts values i less =
+    let value = get_or values i (pos 0) in
+    let long : 1 + length (take i values) ≡ i + 1 = simp length-take (omega arith) in
+    let place : value *ℤ pos (counts (1 + length (take i values))) ≡ value *ℤ pos (counts (i + 1)) =
+    ap (λ (n : ℕ). value *ℤ pos (counts n)) long in
+    let front = ap (value_from 1 counts) (take_more values i (pos 0) less)
+    ∙ value_from-more 1 counts (take i values) (value ∷ []) in
+    omega (arith, ints)
+
+-- Nothing is listed where the count behind the lesser ones is another column's.
+pub listed-gap : (counts : List Count) (column place : ℕ) (d : Count) → Rise counts →
+    ((k : ℕ) → k < place → k < length counts → (get_or counts k d).column < column) →
+    ((k : ℕ) → place ≤ k → k < length counts → column ≤ (get_or counts k d).column) →
+    (place < length counts → (get_or counts place d).column ≡ column → ⊥) → listed counts column ≡ 0
+listed-gap counts column place d rise before behind differ =
+    listed-none counts column d
+    (λ k less same. elim (cases_order k place) as (λ _. ⊥) [
+      | inl here ↦ differ (omega (arith, less, here))
+          (ap (λ (n : ℕ). (get_or counts n d).column) (sym here) ∙ same)
+      | inr (inl low) ↦ omega (arith, before k low less, same)
+      | inr (inr high) ↦ omega (arith, rise place k d high less, behind place (omega arith) (omega (arith, high, less)), same)
+    ])

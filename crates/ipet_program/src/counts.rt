@@ -123,7 +123,11 @@ pub fn are_counts(program: &Program, counts: &[Count], value: u64) -> bool
     ensures valid { OnTrue result (AreCounts program.now counts.now value) }
     ensures invalid { OnFalse result (AreCounts program.now counts.now value → ⊥) }
 {
-    are_named(program.columns, counts)
-        && meet_all(program.rows.as_slice(), counts)
-        && value_by(program.value.as_slice(), counts) == i128::from(value)
+    if !are_named(program.columns, counts) {
+        return false;
+    }
+    if !meet_all(program.rows.as_slice(), counts) {
+        return false;
+    }
+    value_by(program.value.as_slice(), counts) == i128::from(value)
 }
