@@ -13,3 +13,4 @@ pub mod SumLemmas
 pub mod WeightLemmas
 pub mod ShowLemmas
 pub mod ListedLemmas
+pub mod TestLemmas
