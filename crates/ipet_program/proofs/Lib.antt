@@ -14,3 +14,5 @@ pub mod WeightLemmas
 pub mod ShowLemmas
 pub mod ListedLemmas
 pub mod TestLemmas
+pub mod FlowSums
+pub mod Low
