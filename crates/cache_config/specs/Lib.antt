@@ -8,3 +8,4 @@ pub mod Rows
 pub mod Firsts
 pub mod Profiles
 pub mod Defaults
+pub mod Instructions

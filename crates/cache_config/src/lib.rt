@@ -2,6 +2,7 @@
 #![tactic(auto)]
 
 mod checks;
+mod costs;
 mod fault;
 mod first;
 mod keys;
@@ -11,6 +12,7 @@ mod read;
 mod spans;
 mod values;
 
+pub use costs::Costs;
 pub use fault::ConfigFault;
 pub use profile::{Cycles, Profile, Region};
 pub use read::read_profile;

@@ -4,3 +4,4 @@ pub mod Letters
 pub mod Scopes
 pub mod Paths
 pub mod Nested
+pub mod Visits

@@ -4,7 +4,8 @@ use Rattle.std.proofs.Math.Path.{fun_ext}
 use Rattle.mips_decode.specs.State.{code_at}
 use Rattle.mips_decode.specs.Step.{Stepped, Went, Returned, Trapped, value_step}
 use Rattle.mips_decode.specs.Run.{IsRun, Joins}
-use Rattle.mips_machine.specs.Machine.{Machine, Costs, after}
+use Rattle.cache_config.specs.Instructions.{Costs}
+use Rattle.mips_machine.specs.Machine.{Machine, after}
 use Rattle.mips_machine.specs.Run.{Follows, IsMachineRun, last_machine, run_cost, step_cost, values_of}
 use Rattle.mips_machine.proofs.KeptCode.{value_step-code}
 

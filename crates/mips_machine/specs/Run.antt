@@ -4,7 +4,8 @@ use Rattle.mips_decode.specs.State.{State}
 use Rattle.mips_machine.specs.declared.outcome.Outcome.{Outcome}
 use Rattle.mips_machine.specs.declared.outcome.Outcome.TheVariants.{Going, Returned, Trap}
 use Rattle.mips_decode.specs.Step.{Stepped, Went, Returned as Ended, Trapped, value_step}
-use Rattle.mips_machine.specs.Machine.{Machine, Costs, cost, whole_step}
+use Rattle.cache_config.specs.Instructions.{Costs}
+use Rattle.mips_machine.specs.Machine.{Machine, cost, whole_step}
 
 -- A step that told this leads to a machine, after which the run has these further ones.
 abbrev pub Follows : Outcome → List Machine → Type 0

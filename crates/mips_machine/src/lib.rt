@@ -2,7 +2,6 @@
 #![tactic(auto)]
 
 mod clash;
-mod cost;
 mod fill;
 mod index;
 mod machine;
@@ -14,7 +13,6 @@ mod tests;
 mod unit;
 
 pub use clash::has_clash;
-pub use cost::Costs;
 pub use fill::Fill;
 pub use machine::Machine;
 pub use mips_decode::{Regs, Touched, TrapKind};

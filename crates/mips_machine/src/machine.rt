@@ -9,12 +9,11 @@ ghost use Rattle.mips_decode.specs.Step.{plain_done, unit_of};
 ghost use Rattle.mips_machine.specs.Image.{HasNoClash, IsFillable, general_at_start, registers_at_start, regions_of, setting_of, with_fills};
 ghost use Rattle.mips_decode.specs.Table.{IsValid};
 
-use crate::cost::Costs;
 use crate::fill::Fill;
 use crate::memory::Memory;
 use crate::outcome::Outcome;
 use crate::unit::{execute, fetch};
-use cache_config::Profile;
+use cache_config::{Costs, Profile};
 use elf_mips::Image;
 use mips_decode::{Instr, Reg, Regs, Touched, TrapKind};
 use std::alloc::{AllocError, Global};

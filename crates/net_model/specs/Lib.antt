@@ -6,3 +6,4 @@ pub mod Faults
 pub mod Ways
 pub mod Net
 pub mod Loops
+pub mod Moments

@@ -13,13 +13,15 @@ use Rattle.flow_net.specs.declared.net.NetArc.{NetArc}
 use Rattle.mips_decode.specs.State.{code_at}
 use Rattle.mips_decode.specs.Calls.{ReturnsToCallers}
 use Rattle.mips_machine.specs.Image.{regions_of}
-use Rattle.mips_machine.specs.Machine.{Costs, IsMachineStart, Machine, costs_of}
+use Rattle.cache_config.specs.Instructions.{Costs, costs_of}
+use Rattle.mips_machine.specs.Machine.{IsMachineStart, Machine}
 use Rattle.mips_machine.specs.Run.{run_cost, values_of}
 use Rattle.mips_machine.proofs.CodeLemmas.{code_at-regions_of, code_at-start}
 use Rattle.mips_machine.proofs.RunLemmas.{RunsAs, runs_as}
 use Rattle.net_model.specs.Reached.{IsReached, first}
 use Rattle.net_model.specs.Net.{IsPlaceAt}
-use Rattle.wcet_engine.specs.Costliest.{IsCostliest, arc_cost, path_cost, place_price}
+use Rattle.ipet_program.specs.Counts.{arc_cost, path_cost}
+use Rattle.wcet_engine.specs.Costliest.{IsCostliest, place_price}
 use Rattle.wcet_engine.specs.Sentence.{Bounds}
 use Rattle.wcet_engine.proofs.RunPaths.{IsFollowed, RunPath, run-path}
 

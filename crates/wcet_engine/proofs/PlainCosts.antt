@@ -13,12 +13,12 @@ use Rattle.mips_decode.specs.declared.columns.CostClass.{CostClass}
 use Rattle.mips_decode.specs.declared.columns.CostClass.TheVariants as cost
 use Rattle.mips_decode.specs.declared.instr.Instr.{Instr}
 use Rattle.mips_decode.specs.declared.instr.Instr.TheVariants.{Three, Shift, HiLo, MulDiv, Imm, Lui, Load, Store, Branch, Jump, JumpReg, JumpLink, Stop}
-use Rattle.mips_machine.specs.Machine.{costs_of, cycles_of}
+use Rattle.cache_config.specs.Instructions.{costs_of, cycles_of}
 use Rattle.net_model.specs.declared.unit.Content.{Content}
 use Rattle.net_model.specs.declared.unit.Content.TheVariants.{Unit as Stands, Fault}
 use Rattle.net_model.specs.Units.{content_at}
 use Rattle.wcet_engine.specs.Costliest.{place_price, price_at}
-use Rattle.wcet_engine.specs.Costs.{content_cost, instr_cost, slot_cost, touch_cost}
+use Rattle.ipet_program.specs.Costs.{content_cost, instr_cost, slot_cost, touch_cost}
 use Rattle.wcet_engine.specs.Sentence.{IsPlain}
 
 cycles_of-each : (cycles : Cycles) (class : CostClass) → EachTakes 1 cycles → cycles_of cycles class ≡ 1

@@ -15,7 +15,7 @@ use Rattle.mips_decode.specs.Transfer.{Call, Linking, Straight, Returns}
 use Rattle.mips_decode.specs.Step.{Stepped, value_step}
 use Rattle.mips_decode.specs.Run.{HasReturned, IsRun}
 use Rattle.mips_decode.specs.Calls.{GoesBack, ReturnsToCaller, ReturnsToCallers, calls_after, calls_after_link}
-use Rattle.mips_machine.specs.Machine.{Costs}
+use Rattle.cache_config.specs.Instructions.{Costs}
 use Rattle.mips_machine.specs.Run.{run_cost, step_cost}
 use Rattle.net_model.specs.declared.unit.CodeUnit.{CodeUnit}
 use Rattle.net_model.specs.declared.unit.Content.{Content}
@@ -28,8 +28,9 @@ use Rattle.net_model.specs.Net.{IsNet, IsPlaceAt, LeadsTo}
 use Rattle.net_model.proofs.Contents.{IsFetched-unit}
 use Rattle.net_model.proofs.Zero.{IsZero}
 use Rattle.net_model.proofs.Steps.{IsDoneBy, IsWayOn, UnitGoes, unit-goes}
-use Rattle.wcet_engine.specs.Costs.{content_cost, unit_cost}
-use Rattle.wcet_engine.specs.Costliest.{arc_cost, path_cost, place_price, price_at}
+use Rattle.ipet_program.specs.Costs.{content_cost, unit_cost}
+use Rattle.ipet_program.specs.Counts.{arc_cost, path_cost}
+use Rattle.wcet_engine.specs.Costliest.{place_price, price_at}
 use Rattle.wcet_engine.specs.Unbuilt.{IsLeft}
 use Rattle.wcet_engine.proofs.UnitCosts.{step_cost-unit, transfer-alone}
 

@@ -7,7 +7,7 @@ use Rattle.flow_net.specs.Paths.{IsPath, IsRunPath}
 use Rattle.flow_net.specs.declared.net.Net.{Net}
 use Rattle.flow_net.specs.declared.net.NetArc.{NetArc}
 use Rattle.flow_net.specs.declared.net.Place.{Place}
-use Rattle.mips_machine.specs.Machine.{costs_of}
+use Rattle.cache_config.specs.Instructions.{costs_of}
 use Rattle.net_model.specs.declared.unit.CodeUnit.{CodeUnit}
 use Rattle.net_model.specs.declared.unit.Content.TheVariants.{Unit as Stands}
 use Rattle.net_model.specs.Units.{content_at}

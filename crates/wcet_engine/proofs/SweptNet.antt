@@ -8,13 +8,13 @@ use Rattle.flow_net.specs.Numbers.{item_at}
 use Rattle.flow_net.specs.declared.net.Net.{Net}
 use Rattle.flow_net.specs.declared.net.NetArc.{NetArc}
 use Rattle.flow_net.specs.declared.net.Place.{Place}
-use Rattle.mips_machine.specs.Machine.{Costs}
+use Rattle.cache_config.specs.Instructions.{Costs}
 use Rattle.net_model.specs.Units.{content_at}
 use Rattle.unit_graph.specs.Contents.{AreReached}
 use Rattle.unit_graph.specs.declared.reached.Reached.{Reached}
 use Rattle.wcet_engine.specs.Arcs.{AreArcs, IsWay, IsWayArc, arc_to, place_of, places_of}
 use Rattle.wcet_engine.specs.Costliest.{listed_price, place_price, price_at, price_or_zero}
-use Rattle.wcet_engine.specs.Costs.{content_cost}
+use Rattle.ipet_program.specs.Costs.{content_cost}
 use Rattle.wcet_engine.specs.Prices.{prices_of}
 use Rattle.wcet_engine.specs.Sweeps.{AreEnds, IsFalling}
 use Rattle.wcet_engine.specs.Table.{AreRanks, IsStep, IsTable, IsWithin, steps_in}

@@ -6,14 +6,15 @@ use Rattle.mips_decode.specs.declared.instr.Instr.TheVariants.{Three, Shift, HiL
 use Rattle.mips_decode.specs.declared.step.Touched.{Touched}
 use Rattle.mips_decode.specs.State.{State}
 use Rattle.mips_decode.specs.Step.{Done, Stepped}
-use Rattle.mips_machine.specs.Machine.{Costs, access_cost, cost, cost_of}
+use Rattle.cache_config.specs.Instructions.{Costs, access_cost, cost_of}
+use Rattle.mips_machine.specs.Machine.{cost}
 use Rattle.mips_machine.specs.Run.{step_cost}
 use Rattle.net_model.specs.declared.unit.CodeUnit.{CodeUnit}
 use Rattle.net_model.specs.Units.{is_transfer}
 use Rattle.net_model.proofs.Contents.{HasSlot}
 use Rattle.net_model.proofs.Zero.{touch}
 use Rattle.net_model.proofs.Steps.{IsDoneBy, UnitGoes, last_touch, slot_list}
-use Rattle.wcet_engine.specs.Costs.{instr_cost, slot_cost, touch_cost, unit_cost}
+use Rattle.ipet_program.specs.Costs.{instr_cost, slot_cost, touch_cost, unit_cost}
 
 -- The cost of what an instruction touches.
 abbrev touched : Costs → Option Bool → ℕ

@@ -16,7 +16,8 @@ use Rattle.net_model.specs.declared.unit.Content.TheVariants.{Unit as Stands, Fa
 use Rattle.net_model.specs.Units.{Holds, Lacks, Word, content_at, content_of, is_transfer, known, with_slot, word_at}
 use Rattle.unit_graph.proofs.LowWords.{word_low}
 use Rattle.unit_graph.specs.Ways.{IfPlaced, IsPlaced}
-use Rattle.wcet_engine.specs.Prices.{IfStanding, IsOfCode}
+use Rattle.ipet_program.specs.Costs.{IfStanding}
+use Rattle.wcet_engine.specs.Prices.{IsOfCode}
 use Rattle.unit_graph.specs.declared.reached.Reached.{Reached}
 
 -- Only a word's low 32 bits are decoded.

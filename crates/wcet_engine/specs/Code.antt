@@ -3,7 +3,7 @@ use Rattle.std.specs.Prelude.{◌≡◌, ℕ}
 use Rattle.cache_config.specs.declared.profile.Profile.{Profile}
 use Rattle.elf_mips.specs.declared.image.Image.{Image}
 use Rattle.flow_net.specs.declared.net.Net.{Net}
-use Rattle.mips_machine.specs.Machine.{costs_of}
+use Rattle.cache_config.specs.Instructions.{costs_of}
 use Rattle.net_model.specs.declared.unit.CodeKind.{CodeKind}
 use Rattle.net_model.specs.Faults.{IsFirstFault as IsFirstCodeFault}
 use Rattle.net_model.specs.Net.{IsNet}

@@ -17,7 +17,7 @@ use Rattle.wcet_engine.specs.declared.analysis.Refused.TheVariants.{Fault, Memor
 use Rattle.wcet_engine.specs.Refusals.{kind_of, kind_of_code, rank}
 use Rattle.cache_config.specs.declared.profile.Profile.{Profile}
 use Rattle.flow_net.specs.declared.net.Net.{Net}
-use Rattle.mips_machine.specs.Machine.{costs_of}
+use Rattle.cache_config.specs.Instructions.{costs_of}
 use Rattle.net_model.specs.declared.unit.CodeKind.{CodeKind}
 use Rattle.net_model.specs.declared.unit.CodeKind.TheVariants as code
 use Rattle.net_model.specs.declared.unit.CodeUnit.{CodeUnit}

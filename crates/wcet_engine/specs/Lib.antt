@@ -3,7 +3,6 @@ pub mod Arcs
 pub mod Clash
 pub mod Code
 pub mod Costliest
-pub mod Costs
 pub mod Faults
 pub mod Order
 pub mod Outcomes

@@ -5,12 +5,10 @@ use Rattle.std.specs.Option.{option_map}
 use Rattle.flow_net.specs.Numbers.{item_at}
 use Rattle.flow_net.specs.Paths.{IsPath}
 use Rattle.flow_net.specs.declared.net.NetArc.{NetArc}
-use Rattle.wcet_engine.specs.Costliest.{path_cost, price_or_zero}
+use Rattle.ipet_program.specs.Costs.{price_limit}
+use Rattle.ipet_program.specs.Counts.{path_cost}
+use Rattle.wcet_engine.specs.Costliest.{price_or_zero}
 use Rattle.wcet_engine.specs.declared.sweep.Ranked.{Ranked}
-
--- The most that a place may cost.
-abbrev pub price_limit : ℕ
-price_limit = 5000000
 
 abbrev pub ArePrices : List ℕ → Type 0
 ArePrices prices = All (λ price. price ≤ price_limit) prices

@@ -4,12 +4,11 @@ ghost use Rattle.std.specs.Prelude.{◌≡◌, [], ◌∷◌};
 ghost use Rattle.wcet_engine.specs.Arcs.{arc_to};
 ghost use Rattle.wcet_engine.specs.Sweeps.{AreEnds, IsFalling};
 
-use crate::price::unit_price;
 use crate::sweep::costliest;
-use cache_config::Profile;
+use cache_config::{Costs, Profile};
 use flow_net::NetArc;
+use ipet_program::unit_price;
 use mips_decode::decode;
-use mips_machine::Costs;
 use net_model::CodeUnit;
 use std::test::Fail;
 use unit_graph::is_transfer;

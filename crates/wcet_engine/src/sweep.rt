@@ -14,7 +14,8 @@ pub struct Ranked {
     pub arc: NetArc,
 }
 
-ghost use Rattle.wcet_engine.specs.Sweeps.{AreBest, AreEnds, AreOrdered, ArePrices, IsAtMost, IsFalling, IsGreater, best_at, listed_rank, onward_cost, price_limit, ranked_arcs};
+ghost use Rattle.ipet_program.specs.Costs.{price_limit};
+ghost use Rattle.wcet_engine.specs.Sweeps.{AreBest, AreEnds, AreOrdered, ArePrices, IsAtMost, IsFalling, IsGreater, best_at, listed_rank, onward_cost, ranked_arcs};
 
 /// The rank of a place; 0 has the rank 0.
 fn rank_of(ranks: &[u32], place: u32) -> u32

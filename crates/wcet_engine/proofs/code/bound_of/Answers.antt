@@ -4,12 +4,12 @@ use Rattle.std.proofs.Math.Path.{fun_ext}
 use Rattle.std.proofs.lemmas.List.{length-map}
 use Rattle.flow_net.specs.Paths.{IsRunPath}
 use Rattle.flow_net.specs.declared.net.NetArc.{NetArc}
-use Rattle.mips_machine.specs.Machine.{Costs, costs_of}
+use Rattle.cache_config.specs.Instructions.{Costs, costs_of}
 use Rattle.unit_graph.specs.declared.reached.Reached.{Reached}
 use Rattle.wcet_engine.specs.declared.table.Steps.{Steps}
 use Rattle.wcet_engine.specs.Arcs.{AreArcs}
 use Rattle.wcet_engine.specs.Costliest.{IsCostliest, listed_price, place_price}
-use Rattle.wcet_engine.specs.Costs.{content_cost}
+use Rattle.ipet_program.specs.Costs.{content_cost}
 use Rattle.wcet_engine.specs.Prices.{prices_of}
 use Rattle.wcet_engine.specs.Sweeps.{AreEnds, IsFalling}
 use Rattle.unit_graph.specs.Contents.{AreReached}

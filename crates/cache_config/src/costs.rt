@@ -1,11 +1,11 @@
-//! What the units cost.
+//! What instructions cost under a profile.
 
 ghost use Rattle.std.specs.Prelude.{◌≡◌, ◌+◌, ◌≤◌};
 ghost use Rattle.mips_decode.specs.Columns.{class_of};
 ghost use Rattle.mips_decode.specs.Table.{IsValid};
-ghost use Rattle.mips_machine.specs.Machine.{access_cost, cost_of, cycles_of};
+ghost use Rattle.cache_config.specs.Instructions.{access_cost, cost_of, cycles_of};
 
-use cache_config::{Cycles, Profile};
+use crate::profile::{Cycles, Profile};
 use mips_decode::{CostClass, Instr, Touched};
 use std::marker::Model;
 
@@ -19,7 +19,7 @@ pub struct Costs {
 
 impl Model for Costs {
     ghost use Rattle.std.specs.Prelude.{◌≤◌};
-    ghost use Rattle.mips_machine.specs.Machine.{Costs};
+    ghost use Rattle.cache_config.specs.Instructions.{Costs};
 
     ghost Value = { Costs };
 
@@ -29,7 +29,7 @@ impl Model for Costs {
 }
 
 impl Costs {
-    ghost use Rattle.mips_machine.specs.Machine.{costs_of};
+    ghost use Rattle.cache_config.specs.Instructions.{costs_of};
 
     /// The costs of a profile.
     pub fn of_profile(profile: &Profile) -> Costs
