@@ -8,3 +8,5 @@ pub mod Counts
 pub mod Trees
 pub mod Leaves
 pub mod Certificates
+pub mod Tables
+pub mod Faults

@@ -2,11 +2,15 @@
 #![tactic(auto)]
 
 mod certificate;
+mod fault;
 mod leaf;
 mod price;
+mod prices;
 mod program;
+mod unit;
 
 pub use certificate::{Certificate, Count, Node};
+pub use fault::BuildFault;
 pub use leaf::{Leaf, Side2, Weight};
 pub use price::unit_price;
 pub use program::{Program, Row, Stage, Term};

@@ -1,0 +1,4 @@
+-- Lemmas of this crate.
+pub mod Numbered
+pub mod Units
+pub mod Priced

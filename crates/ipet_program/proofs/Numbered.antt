@@ -1,0 +1,87 @@
+-- Lists over the numbers from 1 up to a number.
+use Rattle.std.proofs.Common.{◌≡◌, ℕ, zero, suc, ◌+◌, ◌-◌, ◌<◌, ◌≤◌, List, Option, Some, [], ◌∷◌, ◌++◌, length, get_or, set, All, refl, sym, ◌∙◌, ap, subst, inl, inr, arith, add-one}
+use Rattle.std.proofs.lemmas.Bool.{cases_eq}
+use Rattle.std.proofs.lemmas.List.{length_push, get_or_push, get_or_append_left, set_at, set-append_left}
+use Rattle.std.proofs.lemmas.List.Elements.{All-nil, All-push}
+use Rattle.flow_net.specs.Numbers.{item_at, IsNumberOf}
+use Rattle.flow_net.proofs.Numbers.{item_at-there}
+use Rattle.ipet_program.specs.Sums.{numbered}
+
+pub numbered-more : {T : Type 0} (f : ℕ → T) (n : ℕ) →
+    numbered f (n + 1) ≡ numbered f n ++ f (n + 1) ∷ []
+numbered-more f n = rw add-one refl
+
+pub length-numbered : {T : Type 0} (f : ℕ → T) (n : ℕ) → length (numbered f n) ≡ n
+length-numbered f zero = refl
+length-numbered f (suc n) =
+    omega (arith, length_push (numbered f n) (f (suc n)), length-numbered f n)
+
+-- Each number's item stands at its position.
+pub numbered-get : {T : Type 0} (f : ℕ → T) (n k : ℕ) (d : T) → 1 ≤ k → k ≤ n →
+    get_or (numbered f n) (k - 1) d ≡ f k
+numbered-get f zero k d low high = absurd (omega arith)
+numbered-get f (suc n) k d low high =
+    elim (cases_eq k (suc n)) as (λ _. get_or (numbered f (suc n)) (k - 1) d ≡ f k) [
+      | inl e ↦ get_or_push (numbered f n) (f (suc n)) d (k - 1)
+          (omega (arith, length-numbered f n, e)) ∙ ap f (sym e)
+      | inr differ ↦ get_or_append_left (numbered f n) (f (suc n) ∷ []) d (k - 1)
+          (omega (arith, length-numbered f n, differ, high, low))
+          ∙ numbered-get f n k d low (omega (arith, differ, high))
+    ]
+
+-- Lists of the same items are the same.
+pub numbered-same : {T : Type 0} (f g : ℕ → T) (n : ℕ) →
+    ((k : ℕ) → 1 ≤ k → k ≤ n → f k ≡ g k) → numbered f n ≡ numbered g n
+numbered-same f g zero same = refl
+numbered-same f g (suc n) same =
+    let before : numbered f n ≡ numbered g n =
+    numbered-same f g n (λ k low high. same k low (omega arith)) in
+    let last : f (suc n) ≡ g (suc n) = same (suc n) (omega arith) (omega arith) in
+    (cc)
+
+-- A list with another item at one number.
+pub numbered-set : {T : Type 0} (f g : ℕ → T) (n k : ℕ) → 1 ≤ k → k ≤ n →
+    ((j : ℕ) → 1 ≤ j → j ≤ n → (j ≡ k → ⊥) → f j ≡ g j) →
+    set (numbered f n) (k - 1) (g k) ≡ numbered g n
+numbered-set f g zero k low high same = absurd (omega arith)
+numbered-set f g (suc n) k low high same =
+    elim (cases_eq k (suc n)) as (λ _. set (numbered f (suc n)) (k - 1) (g k) ≡ numbered g (suc n)) [
+      | inl e ↦ set_at (numbered f n) (f (suc n)) [] (g k) (k - 1)
+          (omega (arith, length-numbered f n, e))
+          ∙ (let before : numbered f n ≡ numbered g n =
+            numbered-same f g n (λ j least most. same j least (omega arith) (λ at. omega (arith, at, e))) in
+            let last : g k ≡ g (suc n) = ap g e in
+            (cc))
+      | inr differ ↦ set-append_left (numbered f n) (f (suc n) ∷ []) (k - 1) (g k)
+          (omega (arith, length-numbered f n, differ, high, low))
+          ∙ (let before : set (numbered f n) (k - 1) (g k) ≡ numbered g n =
+            numbered-set f g n k low (omega (arith, differ, high))
+            (λ j least most other. same j least (omega arith) other) in
+            let last : f (suc n) ≡ g (suc n) =
+            same (suc n) (omega arith) (omega arith) (λ at. differ (sym at)) in
+            (cc))
+    ]
+
+-- What holds of each number's item holds of all.
+pub numbered-all : {T : Type 0} (P : T → Type 0) (f : ℕ → T) (n : ℕ) →
+    ((k : ℕ) → 1 ≤ k → k ≤ n → P (f k)) → All P (numbered f n)
+numbered-all P f zero each = All-nil P
+numbered-all P f (suc n) each =
+    All-push P (numbered f n) (f (suc n))
+    (numbered-all P f n (λ k low high. each k low (omega arith)))
+    (each (suc n) (omega arith) (omega arith))
+
+-- One more item is pushed.
+pub numbered-push : {T : Type 0} (f : ℕ → T) (n : ℕ) (before after : List T) (item : T) →
+    before ≡ numbered f n → after ≡ before ++ item ∷ [] → item ≡ f (n + 1) → after ≡ numbered f (n + 1)
+numbered-push f n before after item known pushed same =
+    let more = numbered-more f n in
+    (cc)
+
+-- The item that a loop reads has the number behind its position.
+pub item-read : {T : Type 0} (all items : List T) (index : ℕ) (d : T) → all ≡ items → index < length items →
+    item_at (index + 1) all ≡ Some (get_or items index d)
+item-read all items index d same within =
+    subst (λ xs. item_at (index + 1) xs ≡ Some (get_or items index d)) (sym same)
+    (subst (λ (at : ℕ). item_at (index + 1) items ≡ Some (get_or items at d)) (omega arith)
+    (item_at-there items (index + 1) d (record { from_one = omega arith; within = omega arith })))

@@ -1,0 +1,75 @@
+-- The tables from which a program is built: prices, turns, and rows that grow by a column at a time.
+use Rattle.std.specs.Prelude.{◌≡◌, ℕ, ◌-◌, ◌^◌, ◌≤◌, ◌↔◌, ◌==◌, ◌&&◌, not, min, Bool, true, false, ℤ, pos, ◌-ℤ◌, ◌*ℤ◌, List, [], ◌++◌, length, Option, Some, None, if◌then◌else◌}
+use Rattle.flow_net.specs.Numbers.{item_at}
+use Rattle.flow_net.specs.Scopes.{IsWithin}
+use Rattle.flow_net.specs.declared.net.LoopInst.{LoopInst}
+use Rattle.flow_net.specs.declared.net.Net.{Net}
+use Rattle.flow_net.specs.declared.net.NetArc.{NetArc}
+use Rattle.ipet_program.specs.Costs.{price_limit}
+use Rattle.ipet_program.specs.Rows.{loop_factor, one_if, place_factor, term_of, terms_of}
+use Rattle.ipet_program.specs.Scopes.{TellsHeld, bound_of, turns_at}
+use Rattle.ipet_program.specs.Sums.{numbered, product_to}
+use Rattle.ipet_program.specs.declared.program.Row.{Row}
+
+-- The cycles of a unit: at least one, as each class takes one.
+abbrev pub IsPrice : ℕ → Type 0
+IsPrice price = (1 ≤ price) × (price ≤ price_limit)
+
+-- A number is kept with 128 bits: a greater one as the greatest of them.
+abbrev pub in_128 : ℕ → ℕ
+in_128 n = min n (2 ^ 128 - 1)
+
+-- A test of two scopes that tells whether the second one is within the first.
+abbrev pub TellsWithin : List LoopInst → (ℕ → ℕ → Bool) → Type 0
+TellsWithin loops within = (outer scope : ℕ) → (within outer scope ≡ true) ↔ IsWithin loops outer scope
+
+-- The product of the bounds of the loop instances round a scope, itself among them.
+abbrev pub turns_round : List LoopInst → (ℕ → ℕ → Bool) → ℕ → ℕ
+turns_round loops within scope =
+    product_to (length loops) (λ outer. if within outer scope then bound_of (item_at outer loops) else 1)
+
+abbrev pub AreTurns : List LoopInst → (ℕ → ℕ) → Type 0
+AreTurns loops turns =
+    (within : ℕ → ℕ → Bool) → TellsWithin loops within → (scope : ℕ) → turns scope ≡ in_128 (turns_round loops within scope)
+
+-- A row with a further term.
+abbrev pub with_term : Row → (column : ℕ) → (factor : ℤ) → Row
+with_term row column factor =
+    record { equal = row.equal; terms = row.terms ++ term_of column factor; right = row.right }
+
+-- Rows of which one, if it is among them, has got a further term.
+abbrev pub grown : (ℕ → Row) → (number column : ℕ) → (factor : ℤ) → ℕ → Row
+grown row number column factor place =
+    if number == place then with_term (row place) column factor else row place
+
+-- The rows of places by the first arcs alone.
+abbrev pub place_row_to : List NetArc → (count : ℕ) → ℕ → Row
+place_row_to arcs count place =
+    record { equal = true; terms = terms_of (place_factor arcs place) count; right = pos 0 }
+
+-- The factor of an arc in the row of a place.
+abbrev pub place_part : NetArc → ℕ → ℤ
+place_part arc place = one_if (arc.to == place) -ℤ one_if (arc.from == place)
+
+-- The rows of loop instances by the first arcs alone.
+abbrev pub loop_row_by : List NetArc → (held : ℕ → Bool) → (count : ℕ) → Option LoopInst → Row
+loop_row_by arcs held count None = record { equal = false; terms = []; right = pos 0 }
+loop_row_by arcs held count (Some inst) =
+    record { equal = false; terms = terms_of (loop_factor arcs held inst) count; right = pos 0 }
+
+abbrev pub loop_row_to : Net → (ℕ → ℕ → Bool) → (count : ℕ) → ℕ → Row
+loop_row_to net holds count scope =
+    loop_row_by net.arcs (holds scope) count (item_at scope net.loops)
+
+-- The factor of an arc in the row of a loop instance.
+abbrev pub loop_part : (held : ℕ → Bool) → NetArc → Option LoopInst → ℤ
+loop_part held arc None = pos 0
+loop_part held arc (Some inst) =
+    one_if (arc.to == inst.header)
+    -ℤ pos inst.bound *ℤ one_if ((arc.to == inst.header) && not (held arc.from))
+
+-- The number of the loop instance with this header; 0 where none has it.
+pub record IsLoopAt (net : Net) (place number : ℕ) : Type 0 where
+  pub within : number ≤ length net.loops
+  pub only : (scope : ℕ) (inst : LoopInst) → item_at scope net.loops ≡ Some inst →
+      (inst.header ≡ place) ↔ (scope ≡ number)
