@@ -1,7 +1,7 @@
 -- The tables from which a program is built: prices, turns, and rows that grow by a column at a time.
-use Rattle.std.specs.Prelude.{◌≡◌, ℕ, ◌-◌, ◌^◌, ◌≤◌, ◌↔◌, ◌==◌, ◌&&◌, not, min, Bool, true, false, ℤ, pos, ◌-ℤ◌, ◌*ℤ◌, List, [], ◌++◌, length, Option, Some, None, if◌then◌else◌}
-use Rattle.flow_net.specs.Numbers.{item_at}
-use Rattle.flow_net.specs.Scopes.{IsWithin}
+use Rattle.std.specs.Prelude.{◌≡◌, ℕ, ◌-◌, ◌^◌, ◌≤◌, ◌↔◌, ◌==◌, ◌&&◌, not, min, Bool, true, false, ℤ, pos, ◌-ℤ◌, ◌*ℤ◌, List, [], ◌++◌, length, All, Option, Some, None, if◌then◌else◌}
+use Rattle.flow_net.specs.Numbers.{item_at, IsNumberOrZero}
+use Rattle.flow_net.specs.Scopes.{ChainsEnd, IsWithin}
 use Rattle.flow_net.specs.declared.net.LoopInst.{LoopInst}
 use Rattle.flow_net.specs.declared.net.Net.{Net}
 use Rattle.flow_net.specs.declared.net.NetArc.{NetArc}
@@ -28,9 +28,17 @@ abbrev pub turns_round : List LoopInst → (ℕ → ℕ → Bool) → ℕ → �
 turns_round loops within scope =
     product_to (length loops) (λ outer. if within outer scope then bound_of (item_at outer loops) else 1)
 
-abbrev pub AreTurns : List LoopInst → (ℕ → ℕ) → Type 0
+-- The table of the turns of the loop instances.
+abbrev pub AreTurns : List LoopInst → List ℕ → Type 0
 AreTurns loops turns =
-    (within : ℕ → ℕ → Bool) → TellsWithin loops within → (scope : ℕ) → turns scope ≡ in_128 (turns_round loops within scope)
+    (within : ℕ → ℕ → Bool) → TellsWithin loops within →
+    turns ≡ numbered (λ scope. in_128 (turns_round loops within scope)) (length loops)
+
+-- The chains of outer scopes end, and each bound is at least 1.
+pub record AreChains (loops : List LoopInst) : Type 0 where
+  pub outers : All (λ inst. IsNumberOrZero loops inst.outer) loops
+  pub ends : ChainsEnd loops
+  pub bounds : All (λ inst. 1 ≤ inst.bound) loops
 
 -- A row with a further term.
 abbrev pub with_term : Row → (column : ℕ) → (factor : ℤ) → Row

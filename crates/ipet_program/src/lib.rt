@@ -7,6 +7,7 @@ mod leaf;
 mod price;
 mod prices;
 mod program;
+mod turns;
 mod unit;
 
 pub use certificate::{Certificate, Count, Node};

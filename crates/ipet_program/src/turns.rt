@@ -1,0 +1,50 @@
+//! How often the loops round a scope let it be visited.
+
+ghost use Rattle.std.specs.Prelude.{◌≡◌, ◌<◌, ◌≤◌, ◌^◌, ℕ, Bool, All, IfOk, OnOk, length};
+ghost use Rattle.flow_net.specs.Numbers.{IsNumberOrZero};
+ghost use Rattle.flow_net.specs.Scopes.{ChainsEnd};
+ghost use Rattle.ipet_program.specs.Sums.{numbered};
+ghost use Rattle.ipet_program.specs.Tables.{AreChains, AreTurns, TellsWithin, in_128, turns_round};
+
+use flow_net::LoopInst;
+use std::alloc::{AllocError, Global};
+
+/// The product of the bounds of the loop instances round a scope, itself among them, by the chain from
+/// it outward; 2^128 - 1 where it is greater.
+fn turns_round(loops: &[LoopInst], inner: usize) -> u128
+    requires inner { IsNumberOrZero loops.now inner }
+    requires chains { AreChains loops.now }
+    ensures turns { (within : ℕ → ℕ → Bool) → TellsWithin loops.now within → result ≡ in_128 (turns_round loops.now within inner) }
+{
+    let mut turns: u128 = 1;
+    let mut scope = inner;
+    while scope != 0 {
+        let inst = loops[scope - 1];
+        turns = turns.saturating_mul(u128::from(inst.bound));
+        scope = inst.outer as usize;
+    }
+    turns
+}
+
+/// The turns of each loop instance, in a step for each scope round each of them.
+pub fn turns_of(alloc: Global, loops: &[LoopInst]) -> Result<Vec<u128>, AllocError>
+    requires { AreChains loops.now }
+    ensures turns { IfOk result (λ turns. AreTurns loops.now turns.items) }
+{
+    let mut turns = Vec::new(alloc);
+    for index in 0..loops.len() {
+        turns.push(turns_round(loops, index + 1))?;
+    }
+    Ok(turns)
+}
+
+/// The turns of a scope, of a table of those of the loop instances. The run has one.
+pub fn scope_turns(turns: &[u128], scope: u32) -> u128
+    requires { IsNumberOrZero turns.now scope }
+    ensures { (of : ℕ → ℕ) → of 0 ≡ 1 → turns.now ≡ numbered of (length turns.now) → result ≡ of scope }
+{
+    if scope == 0 {
+        return 1;
+    }
+    turns[scope as usize - 1]
+}
