@@ -4,4 +4,8 @@ pub mod Units
 pub mod Priced
 pub mod Products
 pub mod Bits128
+pub mod Told
 pub mod Rounds
+pub mod Held
+pub mod Small
+pub mod CrudeSums

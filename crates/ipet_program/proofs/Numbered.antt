@@ -85,3 +85,11 @@ item-read all items index d same within =
     subst (λ xs. item_at (index + 1) xs ≡ Some (get_or items index d)) (sym same)
     (subst (λ (at : ℕ). item_at (index + 1) items ≡ Some (get_or items at d)) (omega arith)
     (item_at-there items (index + 1) d (record { from_one = omega arith; within = omega arith })))
+
+-- A position has the item of the number behind it.
+pub numbered-read : {T : Type 0} (f : ℕ → T) (n : ℕ) (items : List T) (index : ℕ) (d : T) →
+    items ≡ numbered f n → index < n → get_or items index d ≡ f (index + 1)
+numbered-read f n items index d same within =
+    subst (λ xs. get_or xs index d ≡ f (index + 1)) (sym same)
+    (subst (λ (at : ℕ). get_or (numbered f n) at d ≡ f (index + 1)) (omega arith)
+    (numbered-get f n (index + 1) d (omega arith) (omega arith)))

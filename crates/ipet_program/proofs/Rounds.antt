@@ -14,28 +14,8 @@ use Rattle.flow_net.proofs.Chains.{within-decided}
 use Rattle.ipet_program.specs.Scopes.{bound_of}
 use Rattle.ipet_program.specs.Sums.{product_to}
 use Rattle.ipet_program.specs.Tables.{TellsWithin, turns_round}
+use Rattle.ipet_program.proofs.Told.{told, told-holds, holds-told, not_told, same_told}
 use Rattle.ipet_program.proofs.Products.{product_to-at, product_to-mul, product_to-ones, product_to-same}
-
--- What is told either way.
-abbrev told : {P : Type 0} → P ⊎ (P → ⊥) → Bool
-told (inl p) = true
-told (inr p) = false
-
-told-holds : {P : Type 0} (d : P ⊎ (P → ⊥)) → told d ≡ true → P
-told-holds (inl p) e = p
-told-holds (inr p) e = cc
-
-holds-told : {P : Type 0} (d : P ⊎ (P → ⊥)) → P → told d ≡ true
-holds-told (inl p) e = refl
-holds-told (inr p) e = absurd (p e)
-
--- A test of what can be told of each two numbers.
-abbrev pub test_of : {P : ℕ → ℕ → Type 0} → ((a b : ℕ) → P a b ⊎ (P a b → ⊥)) → ℕ → ℕ → Bool
-test_of decided a b = told (decided a b)
-
-pub test-tells : {P : ℕ → ℕ → Type 0} (decided : (a b : ℕ) → P a b ⊎ (P a b → ⊥)) (a b : ℕ) →
-    (test_of decided a b ≡ true → P a b) × (P a b → test_of decided a b ≡ true)
-test-tells decided a b = (told-holds (decided a b), holds-told (decided a b))
 
 -- There is a test of which scopes are within which.
 pub within_test : (loops : List LoopInst) → ChainsEnd loops → ℕ → ℕ → Bool
@@ -53,16 +33,6 @@ within-deep : (loops : List LoopInst) (chains : ChainsEnd loops) (outer scope : 
 within-deep loops chains outer _ here = omega arith
 within-deep loops chains outer _ (out scope inst there within) =
     omega (arith, within-deep loops chains outer inst.outer within, chains.falls scope inst there)
-
-same_told : (a b : Bool) → (a ≡ true → b ≡ true) → (b ≡ true → a ≡ true) → a ≡ b
-same_told true true f g = refl
-same_told true false f g = sym (f refl)
-same_told false true f g = g refl
-same_told false false f g = refl
-
-not_told : (a : Bool) → (a ≡ true → ⊥) → a ≡ false
-not_told true f = absurd (f refl)
-not_told false f = refl
 
 -- The run has one turn.
 pub turns-run : (loops : List LoopInst) (within : ℕ → ℕ → Bool) → TellsWithin loops within →

@@ -1,11 +1,12 @@
 -- The tables from which a program is built: prices, turns, and rows that grow by a column at a time.
 use Rattle.std.specs.Prelude.{◌≡◌, ℕ, ◌-◌, ◌^◌, ◌≤◌, ◌↔◌, ◌==◌, ◌&&◌, not, min, Bool, true, false, ℤ, pos, ◌-ℤ◌, ◌*ℤ◌, List, [], ◌++◌, length, All, Option, Some, None, if◌then◌else◌}
-use Rattle.flow_net.specs.Numbers.{item_at, IsNumberOrZero}
+use Rattle.flow_net.specs.Numbers.{item_at, IsNumberOf, IsNumberOrZero}
 use Rattle.flow_net.specs.Scopes.{ChainsEnd, IsWithin}
 use Rattle.flow_net.specs.declared.net.LoopInst.{LoopInst}
 use Rattle.flow_net.specs.declared.net.Net.{Net}
 use Rattle.flow_net.specs.declared.net.NetArc.{NetArc}
 use Rattle.ipet_program.specs.Costs.{price_limit}
+use Rattle.ipet_program.specs.Programs.{crude_limit}
 use Rattle.ipet_program.specs.Rows.{loop_factor, one_if, place_factor, term_of, terms_of}
 use Rattle.ipet_program.specs.Scopes.{TellsHeld, bound_of, turns_at}
 use Rattle.ipet_program.specs.Sums.{numbered, product_to}
@@ -39,6 +40,12 @@ pub record AreChains (loops : List LoopInst) : Type 0 where
   pub outers : All (λ inst. IsNumberOrZero loops inst.outer) loops
   pub ends : ChainsEnd loops
   pub bounds : All (λ inst. 1 ≤ inst.bound) loops
+
+-- The loops round each place let it be visited less often than the limit of the crude bound.
+abbrev pub AreLow : Net → Type 0
+AreLow net =
+    (holds : ℕ → ℕ → Bool) → TellsHeld net holds → (place : ℕ) → IsNumberOf net.places place →
+    turns_at net holds place ≤ crude_limit
 
 -- A row with a further term.
 abbrev pub with_term : Row → (column : ℕ) → (factor : ℤ) → Row

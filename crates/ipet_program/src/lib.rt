@@ -1,7 +1,9 @@
 //! The integer program of a net, its crude bound, and what a certificate of a bound is.
 #![tactic(auto)]
 
+mod arcs;
 mod certificate;
+mod crude;
 mod fault;
 mod leaf;
 mod price;
