@@ -9,3 +9,7 @@ pub mod Rounds
 pub mod Held
 pub mod Small
 pub mod CrudeSums
+pub mod Growth
+pub mod PlaceRows
+pub mod Ends
+pub mod LoopRows

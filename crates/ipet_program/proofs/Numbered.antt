@@ -93,3 +93,10 @@ numbered-read f n items index d same within =
     subst (λ xs. get_or xs index d ≡ f (index + 1)) (sym same)
     (subst (λ (at : ℕ). get_or (numbered f n) at d ≡ f (index + 1)) (omega arith)
     (numbered-get f n (index + 1) d (omega arith) (omega arith)))
+
+-- The item that is read at a number's position is that of the number.
+pub item-number : {T : Type 0} (all items : List T) (number : ℕ) (d : T) → items ≡ all → 1 ≤ number →
+    number ≤ length all → item_at number all ≡ Some (get_or items (number - 1) d)
+item-number all items number d same low high =
+    subst (λ xs. item_at number all ≡ Some (get_or xs (number - 1) d)) (sym same)
+    (item_at-there all number d (record { from_one = low; within = high }))

@@ -47,6 +47,10 @@ AreLow net =
     (holds : ℕ → ℕ → Bool) → TellsHeld net holds → (place : ℕ) → IsNumberOf net.places place →
     turns_at net holds place ≤ crude_limit
 
+-- A row without terms, with the right side 0.
+abbrev pub empty_row : (equal : Bool) → Row
+empty_row equal = record { equal = equal; terms = []; right = pos 0 }
+
 -- A row with a further term.
 abbrev pub with_term : Row → (column : ℕ) → (factor : ℤ) → Row
 with_term row column factor =
@@ -75,6 +79,12 @@ loop_row_by arcs held count (Some inst) =
 abbrev pub loop_row_to : Net → (ℕ → ℕ → Bool) → (count : ℕ) → ℕ → Row
 loop_row_to net holds count scope =
     loop_row_by net.arcs (holds scope) count (item_at scope net.loops)
+
+-- Such a row for each loop instance.
+abbrev pub AreLoopRows : Net → (count : ℕ) → List Row → Type 0
+AreLoopRows net count rows =
+    (holds : ℕ → ℕ → Bool) → TellsHeld net holds →
+    rows ≡ numbered (loop_row_to net holds count) (length net.loops)
 
 -- The factor of an arc in the row of a loop instance.
 abbrev pub loop_part : (held : ℕ → Bool) → NetArc → Option LoopInst → ℤ

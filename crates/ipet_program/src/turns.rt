@@ -1,6 +1,6 @@
 //! How often the loops round a scope let it be visited.
 
-ghost use Rattle.std.specs.Prelude.{◌≡◌, ℕ, Bool, IfOk, length};
+ghost use Rattle.std.specs.Prelude.{◌≡◌, ◌<◌, ◌^◌, ℕ, Bool, All, IfOk, OnOk, length};
 ghost use Rattle.flow_net.specs.Numbers.{IsNumberOf, IsNumberOrZero};
 ghost use Rattle.flow_net.specs.Scopes.{HasScopes};
 ghost use Rattle.ipet_program.specs.Scopes.{TellsHeld, turns_at};
@@ -31,10 +31,12 @@ fn turns_round(loops: &[LoopInst], inner: usize) -> u128
 pub fn turns_of(alloc: Global, loops: &[LoopInst]) -> Result<Vec<u128>, AllocError>
     requires chains { AreChains loops.now }
     ensures turns { IfOk result (λ turns. AreTurns loops.now turns.items) }
+    ensures bounds { OnOk result (All (λ inst. inst.bound < 2 ^ 32) loops.now) }
 {
     let mut turns = Vec::new(alloc);
-    for index in 0..loops.len() {
-        turns.push(turns_round(loops, index + 1))?;
+    for inst in loops {
+        let outward = turns_round(loops, inst.outer as usize);
+        turns.push(outward.saturating_mul(u128::from(inst.bound)))?;
     }
     Ok(turns)
 }
