@@ -13,3 +13,5 @@ pub mod Growth
 pub mod PlaceRows
 pub mod Ends
 pub mod LoopRows
+pub mod Checkable
+pub mod Crudely

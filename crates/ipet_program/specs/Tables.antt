@@ -6,10 +6,11 @@ use Rattle.flow_net.specs.declared.net.LoopInst.{LoopInst}
 use Rattle.flow_net.specs.declared.net.Net.{Net}
 use Rattle.flow_net.specs.declared.net.NetArc.{NetArc}
 use Rattle.ipet_program.specs.Costs.{price_limit}
-use Rattle.ipet_program.specs.Programs.{crude_limit}
-use Rattle.ipet_program.specs.Rows.{loop_factor, one_if, place_factor, term_of, terms_of}
+use Rattle.ipet_program.specs.Programs.{arc_cap, arc_value, crude_limit}
+use Rattle.ipet_program.specs.Rows.{loop_factor, one_if, place_factor, rows_of, term_of, terms_of}
 use Rattle.ipet_program.specs.Scopes.{TellsHeld, bound_of, turns_at}
 use Rattle.ipet_program.specs.Sums.{numbered, product_to}
+use Rattle.ipet_program.specs.declared.program.Program.{Program}
 use Rattle.ipet_program.specs.declared.program.Row.{Row}
 
 -- The cycles of a unit: at least one, as each class takes one.
@@ -98,3 +99,13 @@ pub record IsLoopAt (net : Net) (place number : ℕ) : Type 0 where
   pub within : number ≤ length net.loops
   pub only : (scope : ℕ) (inst : LoopInst) → item_at scope net.loops ≡ Some inst →
       (inst.header ≡ place) ↔ (scope ≡ number)
+
+-- The parts of the program of a net, of a table of the prices of its places.
+pub record HasParts (net : Net) (prices : List ℕ) (program : Program) : Type 0 where
+  pub columns : program.columns ≡ length net.arcs
+  pub rows : (holds : ℕ → ℕ → Bool) → TellsHeld net holds → program.rows ≡ rows_of net holds
+  pub value : (price : ℕ → ℕ) → price 0 ≡ 0 → prices ≡ numbered price (length net.places) →
+      program.value ≡ numbered (λ column. arc_value price (item_at column net.arcs)) (length net.arcs)
+  pub caps : (holds : ℕ → ℕ → Bool) → TellsHeld net holds →
+      program.caps ≡ numbered (λ column. arc_cap net holds (item_at column net.arcs)) (length net.arcs)
+  pub stages : program.stages ≡ []

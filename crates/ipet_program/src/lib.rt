@@ -2,6 +2,7 @@
 #![tactic(auto)]
 
 mod arcs;
+mod assemble;
 mod certificate;
 mod crude;
 mod fault;
@@ -12,9 +13,11 @@ mod places;
 mod price;
 mod prices;
 mod program;
+mod rows;
 mod turns;
 mod unit;
 
+pub use assemble::build;
 pub use certificate::{Certificate, Count, Node};
 pub use fault::BuildFault;
 pub use leaf::{Leaf, Side2, Weight};
