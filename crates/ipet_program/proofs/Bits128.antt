@@ -1,11 +1,12 @@
 -- Sums and products of numbers that are kept with 128 bits.
-use Rattle.std.proofs.Common.{◌≡◌, ℕ, zero, suc, ◌+◌, ◌*◌, ◌-◌, ◌^◌, ◌<◌, ◌≤◌, min, refl, sym, ◌∙◌, ap, subst, inl, inr, ◌⊎◌, arith}
+use Rattle.std.proofs.Common.{◌≡◌, ℕ, zero, suc, ◌+◌, ◌*◌, ◌-◌, ◌^◌, ◌≤◌, refl, sym, ◌∙◌, ap, inl, inr, ◌⊎◌, arith}
 use Rattle.ipet_program.specs.Tables.{in_128}
 
 small_or_great : (a : ℕ) → ((a ≤ 2 ^ 128 - 1) × (in_128 a ≡ a)) ⊎ ((2 ^ 128 - 1 ≤ a) × (in_128 a ≡ 2 ^ 128 - 1))
 small_or_great a = by_sides (dec a) where
   dec : (a : ℕ) → (a ≤ 2 ^ 128 - 1) ⊎ (2 ^ 128 - 1 ≤ a)
   dec a = grind arith
+
   by_sides : (a ≤ 2 ^ 128 - 1) ⊎ (2 ^ 128 - 1 ≤ a) →
       ((a ≤ 2 ^ 128 - 1) × (in_128 a ≡ a)) ⊎ ((2 ^ 128 - 1 ≤ a) × (in_128 a ≡ 2 ^ 128 - 1))
   by_sides (inl h) = inl (h, omega arith)
@@ -22,8 +23,8 @@ in_128-mul a (suc b) =
       | inl h ↦ ap (λ (x : ℕ). in_128 (x * suc b)) h.1
       | inr h ↦ ap (λ (x : ℕ). in_128 (x * suc b)) h.1
           ∙ (let low : 2 ^ 128 - 1 ≤ (2 ^ 128 - 1) * suc b = great_times (2 ^ 128 - 1) b in
-            let high : 2 ^ 128 - 1 ≤ a * suc b = omega (arith, great_times a b, h.0) in
-            omega (arith, low, high))
+          let high : 2 ^ 128 - 1 ≤ a * suc b = omega (arith, great_times a b, h.0) in
+          omega (arith, low, high))
     ]
 
 pub in_128-add : (a b : ℕ) → in_128 (in_128 a + in_128 b) ≡ in_128 (a + b)

@@ -1,6 +1,5 @@
 -- The program of a net keeps the limits that the check of a certificate asks of it.
-use Rattle.std.proofs.Common.{◌≡◌, ℕ, zero, suc, ◌+◌, ◌-◌, ◌^◌, ◌<◌, ◌≤◌, ◌==◌, ◌&&◌, not, Bool, true, false, ℤ, pos, negsuc, ◌-ℤ◌, ◌*ℤ◌, ◌≤ℤ◌, List, [], ◌∷◌, ◌++◌, length, All, Option, Some, None, refl, sym, ◌∙◌, ap, subst, arith}
-use Rattle.std.specs.Prelude.{if◌then◌else◌}
+use Rattle.std.proofs.Common.{◌≡◌, ℕ, zero, suc, ◌-◌, ◌^◌, ◌<◌, ◌≤◌, ◌==◌, Bool, true, false, ℤ, pos, negsuc, ◌-ℤ◌, ◌*ℤ◌, ◌≤ℤ◌, List, [], ◌++◌, length, All, Option, Some, None, refl, sym, ◌∙◌, subst, arith}
 use Rattle.std.proofs.lemmas.Int.{ints}
 use Rattle.std.proofs.lemmas.List.{length-append}
 use Rattle.std.proofs.lemmas.List.Elements.{All-append, All-cons, All-nil, All-same}
@@ -16,7 +15,7 @@ use Rattle.ipet_program.specs.Sums.{numbered}
 use Rattle.ipet_program.specs.declared.program.Program.{Program}
 use Rattle.ipet_program.specs.declared.program.Row.{Row}
 use Rattle.ipet_program.specs.declared.program.Term.{Term}
-use Rattle.ipet_program.proofs.Numbered.{length-numbered, numbered-all}
+use Rattle.ipet_program.proofs.Numbered.{numbered-all}
 
 small-from : (z : ℤ) → z ≤ℤ pos (2 ^ 33) → negsuc (2 ^ 33 - 1) ≤ℤ z → IsSmall z
 small-from (pos n) high low = above n (omega (arith, ints, high))
@@ -112,17 +111,16 @@ small-rows net holds few bounds =
     (λ scope low high. small-loop_row net.arcs (holds scope) (item_at scope net.loops) few
     (λ inst there. item_at-all (λ (i : LoopInst). i.bound < 2 ^ 32) net.loops scope inst bounds there))))
 
-pub is-checkable : (net : Net) (holds : ℕ → ℕ → Bool) (program : Program) (value : ℕ → ℤ) (cap : ℕ → ℕ) →
-    length net.arcs ≤ 2 ^ 25 → All (λ (inst : LoopInst). inst.bound < 2 ^ 32) net.loops →
-    program.columns ≡ length net.arcs → program.rows ≡ rows_of net holds → All IsSmall program.value →
-    program.value ≡ numbered value (length net.arcs) → program.caps ≡ numbered cap (length net.arcs) →
-    IsCheckable program
-is-checkable net holds program value cap few bounds columns rows small values caps =
+pub is-checkable : (net : Net) (holds : ℕ → ℕ → Bool) (program : Program) → length net.arcs ≤ 2 ^ 25 →
+    All (λ (inst : LoopInst). inst.bound < 2 ^ 32) net.loops → program.columns ≡ length net.arcs →
+    program.rows ≡ rows_of net holds → All IsSmall program.value → length program.value ≡ length net.arcs →
+    length program.caps ≡ length net.arcs → IsCheckable program
+is-checkable net holds program few bounds columns rows small values caps =
     record {
       few = omega (arith, columns);
       rows = subst (λ (n : ℕ). All (IsSmallRow n) program.rows) (sym columns)
           (All-same (IsSmallRow (length net.arcs)) program.rows (rows_of net holds) rows (small-rows net holds few bounds));
       values = small;
-      value = ap length values ∙ length-numbered value (length net.arcs) ∙ sym columns;
-      caps = ap length caps ∙ length-numbered cap (length net.arcs) ∙ sym columns;
+      value = values ∙ sym columns;
+      caps = caps ∙ sym columns;
     }

@@ -1,5 +1,5 @@
 -- The crude bound grows by a place's price, as often as the loops round it let it be visited.
-use Rattle.std.proofs.Common.{◌≡◌, ℕ, suc, ◌+◌, ◌*◌, ◌≤◌, sym, ◌∙◌, ap, subst, refl, arith, add-one}
+use Rattle.std.proofs.Common.{◌≡◌, ℕ, ◌+◌, ◌*◌, sym, ◌∙◌, ap, refl, arith, add-one}
 use Rattle.ipet_program.specs.Sums.{sum_to}
 use Rattle.ipet_program.specs.Tables.{in_128}
 use Rattle.ipet_program.proofs.Bits128.{in_128-add, in_128-mul}

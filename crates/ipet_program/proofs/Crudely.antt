@@ -1,11 +1,9 @@
 -- What a crude bound below the limit says of the turns of places.
-use Rattle.std.proofs.Common.{◌≡◌, ℕ, zero, suc, ◌+◌, ◌*◌, ◌-◌, ◌^◌, ◌<◌, ◌≤◌, Bool, List, [], length, get_or, All, refl, sym, ◌∙◌, ap, subst, arith}
+use Rattle.std.proofs.Common.{◌≡◌, ℕ, zero, suc, ◌*◌, ◌-◌, ◌<◌, ◌≤◌, Bool, List, length, get_or, All, sym, ◌∙◌, ap, subst, arith}
 use Rattle.std.proofs.lemmas.List.Elements.{All-get_or}
 use Rattle.flow_net.specs.Numbers.{IsNumberOf}
 use Rattle.flow_net.specs.declared.net.Net.{Net}
-use Rattle.ipet_program.specs.Faults.{IsTooLarge}
 use Rattle.ipet_program.specs.Programs.{crude_limit, crude_of}
-use Rattle.ipet_program.specs.Rows.{entry_row, one_if, term_of, terms_of}
 use Rattle.ipet_program.specs.Scopes.{TellsHeld, turns_at}
 use Rattle.ipet_program.specs.Sums.{numbered}
 use Rattle.ipet_program.specs.Tables.{AreLow, IsPrice, in_128}

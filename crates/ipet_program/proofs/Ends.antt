@@ -1,5 +1,5 @@
 -- Numbers of places are those of their rows.
-use Rattle.std.proofs.Common.{◌≡◌, ℕ, ◌≤◌, List, length, All, sym, arith}
+use Rattle.std.proofs.Common.{◌≡◌, ℕ, List, length, All, arith}
 use Rattle.std.proofs.lemmas.List.Elements.{All-same, All-weaker}
 use Rattle.flow_net.specs.Numbers.{IsNumberOrZero}
 use Rattle.flow_net.specs.declared.net.NetArc.{NetArc}

@@ -1,9 +1,9 @@
 -- Rows that get a further term.
-use Rattle.std.proofs.Common.{◌≡◌, ℕ, zero, suc, ◌+◌, ◌-◌, ◌≤◌, ◌==◌, ◌&&◌, not, Bool, true, false, cond, ℤ, pos, negsuc, ◌-ℤ◌, ◌*ℤ◌, List, [], ◌∷◌, ◌++◌, length, get_or, set, take, Option, Some, None, refl, sym, ◌∙◌, ap, subst, arith, add-one, Decides}
+use Rattle.std.proofs.Common.{◌≡◌, ℕ, ◌+◌, ◌-◌, ◌≤◌, ◌==◌, Bool, true, false, ℤ, pos, List, ◌++◌, length, get_or, set, take, refl, sym, ◌∙◌, ap, subst, arith, add-one}
 use Rattle.std.specs.Prelude.{if◌then◌else◌}
 use Rattle.std.proofs.lemmas.Bool.Decides.{Decides-eqb}
 use Rattle.std.proofs.lemmas.List.{append-nil, take_at}
-use Rattle.ipet_program.specs.Rows.{one_if, term_of, terms_of}
+use Rattle.ipet_program.specs.Rows.{term_of, terms_of}
 use Rattle.ipet_program.specs.Sums.{numbered}
 use Rattle.ipet_program.specs.Tables.{grown, with_term}
 use Rattle.ipet_program.specs.declared.program.Row.{Row}

@@ -1,8 +1,8 @@
 -- There is a test of which scopes hold which places, and the turns of a place are those of its scope.
-use Rattle.std.proofs.Common.{◌≡◌, ℕ, ◌≤◌, Bool, true, false, List, length, Option, Some, refl, sym, ◌∙◌, ap, subst, arith}
+use Rattle.std.proofs.Common.{◌≡◌, ℕ, Bool, List, length, Some, ◌∙◌, ap}
 use Rattle.std.specs.Prelude.{if◌then◌else◌}
 use Rattle.flow_net.specs.Numbers.{item_at}
-use Rattle.flow_net.specs.Scopes.{ChainsEnd, Holds}
+use Rattle.flow_net.specs.Scopes.{ChainsEnd}
 use Rattle.flow_net.specs.declared.net.Net.{Net}
 use Rattle.flow_net.specs.declared.net.Place.{Place}
 use Rattle.flow_net.proofs.Holds.{holds-decided, holds-place}

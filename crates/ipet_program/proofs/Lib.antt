@@ -15,3 +15,4 @@ pub mod Ends
 pub mod LoopRows
 pub mod Checkable
 pub mod Crudely
+pub mod EntryRow

@@ -1,6 +1,5 @@
 -- The rows of loop instances get a further arc.
-use Rattle.std.proofs.Common.{◌≡◌, ℕ, zero, suc, ◌+◌, ◌-◌, ◌<◌, ◌≤◌, ◌==◌, ◌&&◌, not, Bool, true, false, cond, ℤ, pos, negsuc, ◌-ℤ◌, ◌*ℤ◌, List, [], length, Option, Some, None, All, refl, sym, ◌∙◌, ap, subst, ◌++◌, inl, inr, arith}
-use Rattle.std.specs.Prelude.{if◌then◌else◌}
+use Rattle.std.proofs.Common.{◌≡◌, ℕ, zero, suc, ◌+◌, ◌≤◌, ◌==◌, ◌&&◌, not, Bool, true, false, ℤ, pos, ◌-ℤ◌, ◌*ℤ◌, List, length, Option, Some, None, refl, sym, ◌∙◌, ap, subst, ◌++◌, inl, inr, arith}
 use Rattle.std.proofs.lemmas.Bool.{cases_eq}
 use Rattle.std.proofs.lemmas.Bool.Decides.{Decides-eqb}
 use Rattle.std.proofs.lemmas.Int.{ints}
@@ -27,15 +26,19 @@ loop-none net nested place outside =
     record {
       within = omega arith;
       only = λ scope inst there. (
-        λ same. absurd (omega (arith, same, outside,
-        (item_at-all (λ (i : LoopInst). IsNumberOf net.places i.header) net.loops scope inst nested.numbers.headers there).from_one)),
+        λ same. absurd (omega (
+          arith,
+          same,
+          outside,
+          (item_at-all (λ (i : LoopInst). IsNumberOf net.places i.header) net.loops scope inst nested.numbers.headers there).from_one,
+        )),
         λ none. absurd (run scope inst there none),
       );
     }
   where
-  run : (scope : ℕ) (inst : LoopInst) → item_at scope net.loops ≡ Some inst → scope ≡ 0 → ⊥
-  run zero inst there none = grind arith
-  run (suc scope) inst there none = omega (arith, none)
+    run : (scope : ℕ) (inst : LoopInst) → item_at scope net.loops ≡ Some inst → scope ≡ 0 → ⊥
+    run zero inst there none = grind arith
+    run (suc scope) inst there none = omega (arith, none)
 
 -- The innermost scope of a header is its loop instance.
 pub loop-own : (net : Net) → IsNested net → (number : ℕ) (place : Place) (own : LoopInst) →
@@ -46,9 +49,9 @@ loop-own net nested number place own at there same within =
       within = within;
       only = λ scope inst found. (
         λ header. sym (header-scope net nested scope inst place found
-        (subst (λ (n : ℕ). item_at n net.places ≡ Some place) (sym header) at)),
+            (subst (λ (n : ℕ). item_at n net.places ≡ Some place) (sym header) at)),
         λ is. ap (λ (i : LoopInst). i.header) (item_at-same net.loops scope inst own found
-        (subst (λ (s : ℕ). item_at s net.loops ≡ Some own) (sym is) there)) ∙ same,
+            (subst (λ (s : ℕ). item_at s net.loops ≡ Some own) (sym is) there)) ∙ same,
       );
     }
 
@@ -62,15 +65,15 @@ loop-other net nested number place at differ =
       within = omega arith;
       only = λ scope inst found. (
         λ header. absurd (differ inst (subst (λ (s : ℕ). item_at s net.loops ≡ Some inst)
-        (sym (header-scope net nested scope inst place found
-        (subst (λ (n : ℕ). item_at n net.places ≡ Some place) (sym header) at))) found) header),
+            (sym (header-scope net nested scope inst place found
+            (subst (λ (n : ℕ). item_at n net.places ≡ Some place) (sym header) at))) found) header),
         λ none. absurd (run scope inst found none),
       );
     }
   where
-  run : (scope : ℕ) (inst : LoopInst) → item_at scope net.loops ≡ Some inst → scope ≡ 0 → ⊥
-  run zero inst found none = grind arith
-  run (suc scope) inst found none = omega (arith, none)
+    run : (scope : ℕ) (inst : LoopInst) → item_at scope net.loops ≡ Some inst → scope ≡ 0 → ⊥
+    run zero inst found none = grind arith
+    run (suc scope) inst found none = omega (arith, none)
 
 -- An arc to another place has no part in the row of a loop instance.
 part-other : (bound : ℕ) (to out : Bool) → to ≡ false →

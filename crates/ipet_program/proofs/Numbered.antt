@@ -1,9 +1,9 @@
 -- Lists over the numbers from 1 up to a number.
-use Rattle.std.proofs.Common.{◌≡◌, ℕ, zero, suc, ◌+◌, ◌-◌, ◌<◌, ◌≤◌, List, Option, Some, [], ◌∷◌, ◌++◌, length, get_or, set, All, refl, sym, ◌∙◌, ap, subst, inl, inr, arith, add-one}
+use Rattle.std.proofs.Common.{◌≡◌, ℕ, zero, suc, ◌+◌, ◌-◌, ◌<◌, ◌≤◌, List, Some, [], ◌∷◌, ◌++◌, length, get_or, set, All, refl, sym, ◌∙◌, ap, subst, inl, inr, arith, add-one}
 use Rattle.std.proofs.lemmas.Bool.{cases_eq}
 use Rattle.std.proofs.lemmas.List.{length_push, get_or_push, get_or_append_left, set_at, set-append_left}
 use Rattle.std.proofs.lemmas.List.Elements.{All-nil, All-push}
-use Rattle.flow_net.specs.Numbers.{item_at, IsNumberOf}
+use Rattle.flow_net.specs.Numbers.{item_at}
 use Rattle.flow_net.proofs.Numbers.{item_at-there}
 use Rattle.ipet_program.specs.Sums.{numbered}
 
@@ -49,17 +49,17 @@ numbered-set f g (suc n) k low high same =
       | inl e ↦ set_at (numbered f n) (f (suc n)) [] (g k) (k - 1)
           (omega (arith, length-numbered f n, e))
           ∙ (let before : numbered f n ≡ numbered g n =
-            numbered-same f g n (λ j least most. same j least (omega arith) (λ at. omega (arith, at, e))) in
-            let last : g k ≡ g (suc n) = ap g e in
-            (cc))
+          numbered-same f g n (λ j least most. same j least (omega arith) (λ at. omega (arith, at, e))) in
+          let last : g k ≡ g (suc n) = ap g e in
+          (cc))
       | inr differ ↦ set-append_left (numbered f n) (f (suc n) ∷ []) (k - 1) (g k)
           (omega (arith, length-numbered f n, differ, high, low))
           ∙ (let before : set (numbered f n) (k - 1) (g k) ≡ numbered g n =
-            numbered-set f g n k low (omega (arith, differ, high))
-            (λ j least most other. same j least (omega arith) other) in
-            let last : f (suc n) ≡ g (suc n) =
-            same (suc n) (omega arith) (omega arith) (λ at. differ (sym at)) in
-            (cc))
+          numbered-set f g n k low (omega (arith, differ, high))
+          (λ j least most other. same j least (omega arith) other) in
+          let last : f (suc n) ≡ g (suc n) =
+          same (suc n) (omega arith) (omega arith) (λ at. differ (sym at)) in
+          (cc))
     ]
 
 -- What holds of each number's item holds of all.

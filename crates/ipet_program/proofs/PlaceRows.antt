@@ -1,5 +1,5 @@
 -- The rows of places get a further arc.
-use Rattle.std.proofs.Common.{◌≡◌, ℕ, suc, ◌+◌, ◌-◌, ◌<◌, ◌≤◌, ◌==◌, Bool, true, false, cond, ℤ, pos, negsuc, ◌-ℤ◌, List, length, Option, Some, refl, sym, ◌∙◌, ap, subst, ◌++◌}
+use Rattle.std.proofs.Common.{◌≡◌, ℕ, ◌+◌, ◌==◌, Bool, true, false, pos, negsuc, ◌-ℤ◌, List, Option, Some, refl, sym, ◌∙◌, ap, ◌++◌}
 use Rattle.std.specs.Prelude.{if◌then◌else◌}
 use Rattle.std.proofs.lemmas.Bool.Decides.{Decides-eqb}
 use Rattle.flow_net.specs.Numbers.{item_at}

@@ -1,18 +1,13 @@
 -- A place costs what its unit costs.
-use Rattle.std.proofs.Common.{◌≡◌, ℕ, ◌+◌, ◌-◌, ◌<◌, ◌≤◌, List, length, get_or, Option, Some, None, refl, sym, ◌∙◌, ap, subst, arith, add-one}
-use Rattle.cache_config.specs.Instructions.{Costs, cost_of, costs_of, cycles_of}
-use Rattle.cache_config.specs.declared.profile.Cycles.{Cycles}
+use Rattle.std.proofs.Common.{◌≡◌, ℕ, ◌+◌, ◌<◌, List, length, get_or, Some, sym, ◌∙◌, ap}
+use Rattle.cache_config.specs.Instructions.{Costs, costs_of}
 use Rattle.cache_config.specs.declared.profile.Profile.{Profile}
 use Rattle.elf_mips.specs.declared.image.Image.{Image}
 use Rattle.flow_net.specs.Numbers.{item_at}
 use Rattle.flow_net.specs.declared.net.Net.{Net}
 use Rattle.flow_net.specs.declared.net.Place.{Place}
-use Rattle.mips_decode.specs.declared.columns.CostClass.{CostClass}
-use Rattle.mips_decode.specs.declared.columns.CostClass.TheVariants.{Alu, Shift, Mult, Div, Move, Load, Store, Branch, Jump, Stop}
-use Rattle.mips_decode.specs.Columns.{class_of}
 use Rattle.net_model.specs.Units.{content_at}
-use Rattle.net_model.specs.declared.unit.CodeUnit.{CodeUnit}
-use Rattle.ipet_program.specs.Costs.{content_cost, unit_cost}
+use Rattle.ipet_program.specs.Costs.{content_cost}
 use Rattle.ipet_program.specs.Programs.{place_price, price_at}
 use Rattle.ipet_program.proofs.Numbered.{item-read}
 

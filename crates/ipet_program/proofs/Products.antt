@@ -1,5 +1,5 @@
 -- Sums and products over the numbers from 1 up to a number.
-use Rattle.std.proofs.Common.{◌≡◌, ℕ, zero, suc, ◌+◌, ◌*◌, ◌-◌, ◌<◌, ◌≤◌, ◌==◌, Bool, true, false, cond, min, refl, sym, ◌∙◌, ap, subst, inl, inr, arith}
+use Rattle.std.proofs.Common.{◌≡◌, ℕ, zero, suc, ◌*◌, ◌≤◌, ◌==◌, refl, ◌∙◌, ap, inl, inr, arith}
 use Rattle.std.proofs.lemmas.Bool.{cases_eq}
 use Rattle.std.proofs.lemmas.Bool.Decides.{nat_tests}
 use Rattle.std.specs.Prelude.{if◌then◌else◌}
@@ -42,16 +42,16 @@ product_to-at zero t b low high = absurd (omega arith)
 product_to-at (suc n) t b low high =
     elim (cases_eq (suc n) t) as (λ _. product_to (suc n) (λ k. if k == t then b else 1) ≡ b) [
       | inl e ↦
-        let before : product_to n (λ k. if k == t then b else 1) ≡ 1 =
-        product_to-ones n (λ k. if k == t then b else 1)
-        (λ k least most. not_at k t b (λ same. omega (arith, same, e))) in
-        let last : (if suc n == t then b else 1) ≡ b = at_it (suc n) t b e in
-        ap (λ (x : ℕ). x * (if suc n == t then b else 1)) before ∙ ap (λ (x : ℕ). 1 * x) last ∙ omega arith
+          let before : product_to n (λ k. if k == t then b else 1) ≡ 1 =
+          product_to-ones n (λ k. if k == t then b else 1)
+          (λ k least most. not_at k t b (λ same. omega (arith, same, e))) in
+          let last : (if suc n == t then b else 1) ≡ b = at_it (suc n) t b e in
+          ap (λ (x : ℕ). x * (if suc n == t then b else 1)) before ∙ ap (λ (x : ℕ). 1 * x) last ∙ omega arith
       | inr differ ↦
-        let before : product_to n (λ k. if k == t then b else 1) ≡ b =
-        product_to-at n t b low (omega (arith, differ, high)) in
-        let last : (if suc n == t then b else 1) ≡ 1 = not_at (suc n) t b differ in
-        ap (λ (x : ℕ). x * (if suc n == t then b else 1)) before ∙ ap (λ (x : ℕ). b * x) last ∙ omega arith
+          let before : product_to n (λ k. if k == t then b else 1) ≡ b =
+          product_to-at n t b low (omega (arith, differ, high)) in
+          let last : (if suc n == t then b else 1) ≡ 1 = not_at (suc n) t b differ in
+          ap (λ (x : ℕ). x * (if suc n == t then b else 1)) before ∙ ap (λ (x : ℕ). b * x) last ∙ omega arith
     ]
 
 -- No addend exceeds the sum.

@@ -1,10 +1,10 @@
 -- The turns of a scope are its bound times the turns of the next scope outward.
-use Rattle.std.proofs.Common.{◌≡◌, ℕ, suc, zero, ◌+◌, ◌*◌, ◌<◌, ◌≤◌, ◌==◌, Bool, true, false, cond, List, length, Option, Some, None, All, refl, sym, ◌∙◌, ap, subst, inl, inr, ◌⊎◌, arith}
+use Rattle.std.proofs.Common.{◌≡◌, ℕ, ◌*◌, ◌≤◌, ◌==◌, Bool, true, false, List, length, Some, sym, ◌∙◌, ap, subst, inl, inr, arith}
 use Rattle.std.specs.Prelude.{if◌then◌else◌}
 use Rattle.std.proofs.lemmas.Bool.{cases_eq}
 use Rattle.std.proofs.lemmas.Bool.Decides.{nat_tests}
 use Rattle.std.proofs.lemmas.Option.{none-some}
-use Rattle.flow_net.specs.Numbers.{item_at, IsNumberOf, IsNumberOrZero}
+use Rattle.flow_net.specs.Numbers.{item_at}
 use Rattle.flow_net.specs.Scopes.{ChainsEnd, IsWithin}
 use Rattle.flow_net.specs.Scopes.IsWithin.{here, out}
 use Rattle.flow_net.specs.declared.net.LoopInst.{LoopInst}
@@ -12,7 +12,6 @@ use Rattle.flow_net.proofs.Numbers.{item_at-within}
 use Rattle.flow_net.proofs.Within.{within-cases, within-next}
 use Rattle.flow_net.proofs.Chains.{within-decided}
 use Rattle.ipet_program.specs.Scopes.{bound_of}
-use Rattle.ipet_program.specs.Sums.{product_to}
 use Rattle.ipet_program.specs.Tables.{TellsWithin, turns_round}
 use Rattle.ipet_program.proofs.Told.{told, told-holds, holds-told, not_told, same_told}
 use Rattle.ipet_program.proofs.Products.{product_to-at, product_to-mul, product_to-ones, product_to-same}
@@ -41,12 +40,12 @@ turns-run loops within tells =
     product_to-ones (length loops) (λ outer. if within outer 0 then bound_of (item_at outer loops) else 1)
     (λ outer low high. ap (λ (b : Bool). if b then bound_of (item_at outer loops) else 1) (not_told (within outer 0) (λ e. apart outer low ((tells outer 0).0 e))))
   where
-  apart : (outer : ℕ) → 1 ≤ outer → IsWithin loops outer 0 → ⊥
-  apart outer low w =
-      elim (within-cases loops outer 0 w) as (λ _. ⊥) [
-        | inl same ↦ omega (arith, same, low)
-        | inr below ↦ none-some below.inst below.there
-      ]
+    apart : (outer : ℕ) → 1 ≤ outer → IsWithin loops outer 0 → ⊥
+    apart outer low w =
+        elim (within-cases loops outer 0 w) as (λ _. ⊥) [
+          | inl same ↦ omega (arith, same, low)
+          | inr below ↦ none-some below.inst below.there
+        ]
 
 module _ (loops : List LoopInst) (chains : ChainsEnd loops) (within : ℕ → ℕ → Bool)
     (tells : TellsWithin loops within) (scope : ℕ) (inst : LoopInst) (there : item_at scope loops ≡ Some inst) where

@@ -1,8 +1,8 @@
 -- Prices and rows have small numbers.
-use Rattle.std.proofs.Common.{◌≡◌, ℕ, ◌+◌, ◌-◌, ◌^◌, ◌<◌, ◌≤◌, ℤ, pos, negsuc, sym, subst, arith, to_z, w64}
+use Rattle.std.proofs.Common.{◌≡◌, ℕ, pos, sym, subst, arith, to_z, w64}
 use Rattle.std.proofs.lemmas.Int.{ints}
 use Rattle.ipet_program.specs.Programs.{IsSmall}
-use Rattle.ipet_program.specs.Programs.IsSmall.{above, below}
+use Rattle.ipet_program.specs.Programs.IsSmall.{above}
 use Rattle.ipet_program.specs.Tables.{IsPrice}
 
 -- A price is the same as a signed number.

@@ -1,5 +1,5 @@
 -- What the fetches of a unit say of what stands at its address.
-use Rattle.std.proofs.Common.{◌≡◌, ℕ, ◌+◌, Bool, true, false, Option, Some, None, IfSome, IfNone, refl, sym, ◌∙◌, ap, subst}
+use Rattle.std.proofs.Common.{◌≡◌, ℕ, ◌+◌, true, false, Option, Some, None, IfSome, IfNone, refl, sym, ◌∙◌, ap, subst}
 use Rattle.elf_mips.specs.declared.image.Image.{Image}
 use Rattle.elf_mips.specs.Segments.{code_at}
 use Rattle.mips_decode.specs.declared.instr.Instr.{Instr}
@@ -7,7 +7,7 @@ use Rattle.mips_decode.specs.Step.{Fetched, Found, fetched}
 use Rattle.net_model.specs.Units.{content_at, is_transfer}
 use Rattle.net_model.specs.declared.unit.CodeUnit.{CodeUnit}
 use Rattle.net_model.specs.declared.unit.Content.TheVariants.{Unit as Stands}
-use Rattle.net_model.proofs.Contents.{HasSlot, IsFetched, IsFetched-unit}
+use Rattle.net_model.proofs.Contents.{HasSlot, IsFetched-unit}
 
 -- What was fetched of a slot.
 pub record IsSlot (slot : Option Instr) (instr : Instr) (word : Fetched) : Type 0 where
@@ -39,8 +39,8 @@ unit_stands image address unit stands instr slot found is =
     let whole : unit ≡ record { instr = instr; slot = slot } = by_parts unit instr slot same (sym also) in
     stands ∙ ap Stands whole
   where
-  by_parts : (u : CodeUnit) (instr : Instr) (slot : Option Instr) → u.instr ≡ instr → u.slot ≡ slot →
-      u ≡ record { instr = instr; slot = slot }
-  by_parts u instr slot same also =
-      subst (λ (i : Instr). u ≡ record { instr = i; slot = slot }) same
-      (subst (λ (s : Option Instr). u ≡ record { instr = u.instr; slot = s }) also refl)
+    by_parts : (u : CodeUnit) (instr : Instr) (slot : Option Instr) → u.instr ≡ instr → u.slot ≡ slot →
+        u ≡ record { instr = instr; slot = slot }
+    by_parts u instr slot same also =
+        subst (λ (i : Instr). u ≡ record { instr = i; slot = slot }) same
+        (subst (λ (s : Option Instr). u ≡ record { instr = u.instr; slot = s }) also refl)

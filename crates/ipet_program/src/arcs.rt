@@ -32,6 +32,7 @@ pub fn values_of(alloc: Global, net: &Net, prices: &[u64]) -> Result<List<i64>, 
     requires count { length prices.now ≡ length net.now.places }
     requires priced { All IsPrice prices.now }
     ensures values { IfOk result (λ values. (price : ℕ → ℕ) → price 0 ≡ 0 → prices.now ≡ numbered price (length net.now.places) → values ≡ numbered (λ column. arc_value price (item_at column net.now.arcs)) (length net.now.arcs)) }
+    ensures count { IfOk result (λ values. length values ≡ length net.now.arcs) }
     ensures small { IfOk result (All IsSmall) }
 {
     let mut values = List::new(alloc);

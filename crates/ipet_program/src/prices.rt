@@ -33,6 +33,7 @@ pub fn prices_of(
 ) -> Result<Vec<u64>, AllocError>
     requires { FitsImage image.now net.now }
     ensures prices { IfOk result (λ prices. prices.items ≡ numbered (place_price profile.now image.now net.now) (length net.now.places)) }
+    ensures count { IfOk result (λ prices. length prices.items ≡ length net.now.places) }
     ensures priced { IfOk result (λ prices. All IsPrice prices.items) }
 {
     let costs = Costs::of_profile(profile);

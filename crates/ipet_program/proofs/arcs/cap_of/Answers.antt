@@ -1,5 +1,5 @@
 -- The turns of a place fit 64 bits, as they are low.
-use Rattle.std.proofs.Common.{ℕ, Bool, arith}
+use Rattle.std.proofs.Common.{arith}
 use Rattle.flow_net.specs.Numbers.{IsNumberOf}
 use Rattle.ipet_program.proofs.Held.{held_test, held_test-tells}
 use Rattle.ipet_program.proofs.arcs.cap_of.Goals as goal

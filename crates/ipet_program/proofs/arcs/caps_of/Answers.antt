@@ -1,5 +1,5 @@
 -- The cap of each arc stands behind those of the arcs before it.
-use Rattle.std.proofs.Common.{◌≡◌, ℕ, ◌+◌, length, subst, sym, ap, ◌∙◌, arith}
+use Rattle.std.proofs.Common.{◌≡◌, ℕ, length, subst, sym, ap, ◌∙◌, arith}
 use Rattle.flow_net.specs.Numbers.{item_at}
 use Rattle.ipet_program.specs.Programs.{arc_cap}
 use Rattle.ipet_program.specs.Sums.{numbered}

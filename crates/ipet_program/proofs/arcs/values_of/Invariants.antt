@@ -9,5 +9,6 @@ abbrev pub invariant-loop-arc : goal.invariant-loop-arc
 invariant-loop-arc l = record {
   known : (price : ℕ → ℕ) → price 0 ≡ 0 → l.prices ≡ numbered price (length l.net.places) →
       l.values ≡ numbered (λ column. arc_value price (item_at column l.net.arcs)) l.arc-index;
+  count : length l.values ≡ l.arc-index;
   small : All IsSmall l.values;
 }

@@ -1,5 +1,5 @@
 -- Each place's price is added, as often as the loops round it let it be visited.
-use Rattle.std.proofs.Common.{◌≡◌, ℕ, ◌*◌, ◌+◌, length, subst, sym, ◌∙◌, arith}
+use Rattle.std.proofs.Common.{◌≡◌, ℕ, ◌*◌, length, subst, ◌∙◌, arith}
 use Rattle.ipet_program.specs.Scopes.{turns_at}
 use Rattle.ipet_program.specs.Sums.{sum_to}
 use Rattle.ipet_program.specs.Tables.{in_128}

@@ -1,5 +1,5 @@
 -- The row of the number gets the term.
-use Rattle.std.proofs.Common.{ℕ, ℤ, w64, ◌-◌, set, get_or, ap, ◌∙◌, arith}
+use Rattle.std.proofs.Common.{ℤ, w64, ◌-◌, set, get_or, ap, ◌∙◌, arith}
 use Rattle.std.proofs.lemmas.Int.{to_z-of_z}
 use Rattle.ipet_program.specs.Tables.{with_term}
 use Rattle.ipet_program.specs.declared.program.Row.{Row}

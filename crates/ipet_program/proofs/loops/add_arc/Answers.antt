@@ -1,5 +1,5 @@
 -- The row of the loop instance gets the arc's term, and no other row has one.
-use Rattle.std.proofs.Common.{◌≡◌, ℕ, ◌-◌, ◌-ℤ◌, ◌*ℤ◌, not, Bool, ℤ, pos, List, length, get_or, Some, subst, sym, ap, ◌∙◌, arith, rules, w64, to_z, of_z, SFits}
+use Rattle.std.proofs.Common.{◌≡◌, ◌-◌, ◌-ℤ◌, ◌*ℤ◌, not, Bool, pos, length, get_or, Some, ap, ◌∙◌, arith, rules, w64, SFits}
 use Rattle.std.proofs.lemmas.Int.{to_z-of_z}
 use Rattle.flow_net.specs.Numbers.{item_at}
 use Rattle.flow_net.specs.declared.net.LoopInst.{LoopInst}

@@ -1,5 +1,5 @@
 -- Each arc is added to the row of its end's loop instance.
-use Rattle.std.proofs.Common.{◌≡◌, ℕ, ◌+◌, List, length, get_or, subst, sym, ◌∙◌}
+use Rattle.std.proofs.Common.{◌≡◌, ℕ, ◌+◌, length, get_or, subst, sym, ◌∙◌}
 use Rattle.flow_net.specs.declared.net.NetArc.{NetArc}
 use Rattle.ipet_program.specs.Sums.{numbered}
 use Rattle.ipet_program.specs.Tables.{loop_row_to}

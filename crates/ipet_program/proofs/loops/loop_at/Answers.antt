@@ -1,9 +1,7 @@
 -- The innermost scope of a header is its loop instance, and no other place is a header.
-use Rattle.std.proofs.Common.{◌≡◌, ℕ, ◌-◌, ◌≤◌, List, length, get_or, Some, subst, sym, ap, ◌∙◌, arith}
-use Rattle.std.proofs.lemmas.List.Elements.{All-get_or}
+use Rattle.std.proofs.Common.{◌≡◌, ◌-◌, ◌≤◌, length, get_or, Some, ap, ◌∙◌, arith}
 use Rattle.flow_net.specs.Numbers.{item_at}
 use Rattle.flow_net.specs.declared.net.LoopInst.{LoopInst}
-use Rattle.flow_net.specs.declared.net.Net.{Net}
 use Rattle.flow_net.specs.declared.net.Place.{Place}
 use Rattle.flow_net.proofs.Numbers.{item_at-all, item_at-same, item_at-within}
 use Rattle.ipet_program.proofs.LoopRows.{loop-none, loop-other, loop-own}

@@ -1,5 +1,5 @@
 -- The rows of all loop instances have the terms of all arcs.
-use Rattle.std.proofs.Common.{◌≡◌, ℕ, Bool, false, List, length, ◌∙◌, arith}
+use Rattle.std.proofs.Common.{ℕ, false, length, ◌∙◌, arith}
 use Rattle.ipet_program.specs.Rows.{loop_row}
 use Rattle.ipet_program.specs.Tables.{empty_row}
 use Rattle.ipet_program.proofs.Growth.{rows-back, rows-count}

@@ -1,9 +1,8 @@
 -- Each arc is added to the rows of its ends.
-use Rattle.std.proofs.Common.{◌≡◌, ℕ, ◌+◌, List, length, get_or, refl, subst, sym, ◌∙◌}
+use Rattle.std.proofs.Common.{◌≡◌, ℕ, ◌+◌, length, get_or, refl, subst, sym, ◌∙◌}
 use Rattle.flow_net.specs.declared.net.NetArc.{NetArc}
 use Rattle.ipet_program.specs.Sums.{numbered}
 use Rattle.ipet_program.specs.Tables.{place_row_to}
-use Rattle.ipet_program.specs.declared.program.Row.{Row}
 use Rattle.ipet_program.proofs.Numbered.{item-read}
 use Rattle.ipet_program.proofs.PlaceRows.{place_rows-next}
 use Rattle.ipet_program.proofs.places.add_arcs.Goals as goal

@@ -1,5 +1,5 @@
 -- The rows of all places have the terms of all arcs.
-use Rattle.std.proofs.Common.{◌≡◌, ℕ, true, List, length, subst, sym, ◌∙◌, arith}
+use Rattle.std.proofs.Common.{◌≡◌, ℕ, true, List, length, subst, arith}
 use Rattle.flow_net.specs.declared.net.NetArc.{NetArc}
 use Rattle.ipet_program.specs.Rows.{place_row}
 use Rattle.ipet_program.specs.Sums.{numbered}

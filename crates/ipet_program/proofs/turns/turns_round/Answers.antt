@@ -1,11 +1,11 @@
 -- Each turn of the loop goes one scope outward and takes that scope's bound along.
-use Rattle.std.proofs.Common.{◌≡◌, ℕ, Bool, ◌-◌, ◌*◌, List, Some, get_or, arith, ap, ◌∙◌}
+use Rattle.std.proofs.Common.{◌≡◌, ℕ, ◌-◌, ◌*◌, List, Some, get_or, arith, ap, ◌∙◌}
 use Rattle.flow_net.specs.Numbers.{item_at, IsNumberOrZero}
 use Rattle.flow_net.specs.declared.net.LoopInst.{LoopInst}
 use Rattle.flow_net.proofs.Numbers.{item_at-all, item_at-there}
 use Rattle.flow_net.proofs.Chains.{around-outward}
 use Rattle.ipet_program.specs.Tables.{in_128, turns_round}
-use Rattle.ipet_program.proofs.Bits128.{kept-first, kept-last, kept-next}
+use Rattle.ipet_program.proofs.Bits128.{kept-last, kept-next}
 use Rattle.ipet_program.proofs.Rounds.{turns-outward, turns-run}
 use Rattle.ipet_program.proofs.turns.turns_round.Goals as goal
 
