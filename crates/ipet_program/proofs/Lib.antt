@@ -16,3 +16,5 @@ pub mod LoopRows
 pub mod Checkable
 pub mod Crudely
 pub mod EntryRow
+pub mod EachItems
+pub mod ForwardNets

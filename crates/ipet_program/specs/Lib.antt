@@ -10,3 +10,4 @@ pub mod Leaves
 pub mod Certificates
 pub mod Tables
 pub mod Faults
+pub mod Forward
