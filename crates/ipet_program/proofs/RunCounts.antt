@@ -30,7 +30,7 @@ use Rattle.ipet_program.specs.declared.program.Program.{Program}
 use Rattle.ipet_program.specs.declared.program.Row.{Row}
 use Rattle.ipet_program.proofs.CertificateLaw.{certificate-bound}
 use Rattle.ipet_program.proofs.Exchange.{IsColumn}
-use Rattle.ipet_program.proofs.Numbered.{All-numbered, item_at-numbered, length-numbered}
+use Rattle.ipet_program.proofs.Numbered.{numbered-all, item_at-numbered, length-numbered}
 use Rattle.ipet_program.proofs.RunSums.{along, chain-columns, chain-of_run, counts-along, IsChain}
 use Rattle.ipet_program.proofs.Terms.{row_sum-terms}
 use Rattle.ipet_program.proofs.Totals.{total_to, total_to-same}
@@ -199,11 +199,11 @@ rows-met net holds told moments path keeps =
     (row-along (λ column. one_if (column == 1)) (length net.arcs) moments within
     ∙ entry-run net.arcs (arcs_of moments) 0 path)
     (All-append (IsMet (counts_of moments)) places loops
-    (All-numbered (IsMet (counts_of moments)) (place_row net.arcs) (length net.places)
+    (numbered-all (IsMet (counts_of moments)) (place_row net.arcs) (length net.places)
     (λ place low high. row-along (place_factor net.arcs place) (length net.arcs) moments within
     ∙ place-along net.arcs place 0 (arcs_of moments) 0 chain
     ∙ omega (arith, ints)))
-    (All-numbered (IsMet (counts_of moments)) (loop_row net holds) (length net.loops)
+    (numbered-all (IsMet (counts_of moments)) (loop_row net holds) (length net.loops)
     (λ scope low high. loop-met net holds told moments chain keeps scope (item_at scope net.loops) refl)))
 
 -- ---- The value.

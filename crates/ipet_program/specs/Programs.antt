@@ -1,5 +1,5 @@
 -- The program of a net, its crude bound, and the limits that a program keeps.
-use Rattle.std.specs.Prelude.{◌≡◌, ℕ, ◌-◌, ◌*◌, ◌^◌, ◌<◌, ◌≤◌, ◌==◌, Bool, ℤ, pos, negsuc, List, [], length, All, Option, Some, None, if◌then◌else◌}
+use Rattle.std.specs.Prelude.{◌≡◌, ℕ, ◌-◌, ◌*◌, ◌^◌, ◌<◌, ◌≤◌, ◌==◌, Bool, ℤ, pos, negsuc, [], length, All, Option, Some, None, if◌then◌else◌}
 use Rattle.cache_config.specs.Instructions.{costs_of}
 use Rattle.cache_config.specs.declared.profile.Profile.{Profile}
 use Rattle.elf_mips.specs.declared.image.Image.{Image}
