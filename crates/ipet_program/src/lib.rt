@@ -6,6 +6,8 @@ mod assemble;
 mod certificate;
 mod crude;
 mod fault;
+#[cfg(test)]
+mod forward;
 mod growing;
 mod leaf;
 mod loops;
@@ -14,6 +16,10 @@ mod price;
 mod prices;
 mod program;
 mod rows;
+#[cfg(test)]
+mod standing;
+#[cfg(test)]
+mod tests;
 mod turns;
 mod unit;
 
