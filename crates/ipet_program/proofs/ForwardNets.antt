@@ -1,11 +1,10 @@
 -- Nets whose places' numbers rise along each arc but the back arcs are nested.
-use Rattle.std.proofs.Common.{◌≡◌, ℕ, zero, suc, ◌+◌, ◌-◌, ◌<◌, ◌≤◌, List, [], ◌∷◌, ◌++◌, length, get_or, All, Some, refl, sym, ◌∙◌, ap, subst, inl, inr, ◌⊎◌, arith}
+use Rattle.std.proofs.Common.{◌≡◌, ℕ, zero, suc, ◌+◌, ◌-◌, ◌<◌, ◌≤◌, List, [], ◌∷◌, ◌++◌, length, get_or, Some, refl, sym, ◌∙◌, subst, inl, inr, arith}
 use Rattle.std.proofs.lemmas.Bool.{cases_eq}
 use Rattle.std.proofs.lemmas.List.Elements.{All-nil, All-same}
-use Rattle.flow_net.specs.Nested.{HasNumbers, HasRanks, IsBack, IsEntered, IsNested}
+use Rattle.flow_net.specs.Nested.{HasNumbers, HasRanks, IsEntered, IsNested}
 use Rattle.flow_net.specs.Numbers.{IsNumberOf, IsNumberOrZero, item_at}
 use Rattle.flow_net.specs.Paths.{IsPath, IsRunPath}
-use Rattle.flow_net.specs.Scopes.{Holds}
 use Rattle.flow_net.specs.declared.net.Access.{Access}
 use Rattle.flow_net.specs.declared.net.LoopInst.{LoopInst}
 use Rattle.flow_net.specs.declared.net.Net.{Net}
@@ -51,15 +50,26 @@ module _ (net : Net) (is : IsForward net) where
       let reached = (place_of place (get_or net.places (place - 1) none) (item_at-there net.places place none number)).reached in
       let arc = arc_of reached.number reached.arc reached.there in
       elim (cases_eq reached.arc.from 0) as (λ _. (numbers : List ℕ) × IsRunPath net.arcs numbers place) [
-        | inl e ↦ (1 ∷ [], (refl, (reached.arc,
-            subst (λ (k : ℕ). item_at k net.arcs ≡ Some reached.arc) (arc.only e) reached.there, e, reached.to)))
+        | inl e ↦ (
+          1 ∷ [],
+          (
+            refl,
+            (
+              reached.arc,
+              subst (λ (k : ℕ). item_at k net.arcs ≡ Some reached.arc) (arc.only e) reached.there,
+              e,
+              reached.to,
+            ),
+          ),
+        )
         | inr differ ↦
-          let before = run-to n reached.arc.from (omega (arith, reached.rises, less))
-          (record { from_one = omega (arith, differ); within = arc.from }) in
-          (before.0 ++ reached.number ∷ [],
-          subst (λ (p : ℕ). IsRunPath net.arcs (before.0 ++ reached.number ∷ []) p) reached.to
-          (run-more net.arcs before.0 reached.arc.from reached.number reached.arc before.1 reached.there refl
-          (omega (arith, differ))))
+            let before = run-to n reached.arc.from (omega (arith, reached.rises, less))
+            (record { from_one = omega (arith, differ); within = arc.from }) in (
+              before.0 ++ reached.number ∷ [],
+              subst (λ (p : ℕ). IsRunPath net.arcs (before.0 ++ reached.number ∷ []) p) reached.to
+                  (run-more net.arcs before.0 reached.arc.from reached.number reached.arc before.1 reached.there refl
+                  (omega (arith, differ))),
+            )
       ]
 
   entered_by : IsEntered net

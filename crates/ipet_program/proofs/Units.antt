@@ -1,12 +1,15 @@
 -- What the fetches of a unit say of what stands at its address.
-use Rattle.std.proofs.Common.{◌≡◌, ℕ, ◌+◌, true, false, Option, Some, None, IfSome, IfNone, refl, sym, ◌∙◌, ap, subst}
+use Rattle.std.proofs.Common.{◌≡◌, Bool, ℕ, ◌+◌, true, false, Option, Some, None, IfSome, IfNone, refl, sym, ◌∙◌, ap, subst}
 use Rattle.elf_mips.specs.declared.image.Image.{Image}
 use Rattle.elf_mips.specs.Segments.{code_at}
 use Rattle.mips_decode.specs.declared.instr.Instr.{Instr}
 use Rattle.mips_decode.specs.Step.{Fetched, Found, fetched}
-use Rattle.net_model.specs.Units.{content_at, is_transfer}
+use Rattle.std.specs.Prelude.{if◌then◌else◌}
+use Rattle.net_model.specs.Units.{Holds, content_at, content_of, is_transfer, with_slot, word_at}
+use Rattle.net_model.specs.declared.unit.CodeKind.TheVariants.{TransferInSlot}
+use Rattle.ipet_program.specs.Programs.{IsUnitAt}
 use Rattle.net_model.specs.declared.unit.CodeUnit.{CodeUnit}
-use Rattle.net_model.specs.declared.unit.Content.TheVariants.{Unit as Stands}
+use Rattle.net_model.specs.declared.unit.Content.TheVariants.{Unit as Stands, Fault}
 use Rattle.net_model.proofs.Contents.{HasSlot, IsFetched-unit}
 
 -- What was fetched of a slot.
@@ -44,3 +47,25 @@ unit_stands image address unit stands instr slot found is =
     by_parts u instr slot same also =
         subst (λ (i : Instr). u ≡ record { instr = i; slot = slot }) same
         (subst (λ (s : Option Instr). u ≡ record { instr = u.instr; slot = s }) also refl)
+
+-- What the words of a unit say.
+pub stands-plain : (image : Image) (address : ℕ) (instr : Instr) → word_at image address ≡ Holds instr →
+    is_transfer instr ≡ false → IsUnitAt image address
+stands-plain image address instr word plain =
+    record {
+      unit = record { instr = instr; slot = None };
+      stands = ap (content_of image address) word
+          ∙ ap (λ (b : Bool). if b then with_slot instr (address + 4) (word_at image (address + 4)) else Stands (record { instr = instr; slot = None })) plain;
+    }
+
+pub stands-slotted : (image : Image) (address : ℕ) (instr slot : Instr) → word_at image address ≡ Holds instr →
+    is_transfer instr ≡ true → word_at image (address + 4) ≡ Holds slot → is_transfer slot ≡ false →
+    IsUnitAt image address
+stands-slotted image address instr slot word transfer also plain =
+    record {
+      unit = record { instr = instr; slot = Some slot };
+      stands = ap (content_of image address) word
+          ∙ ap (λ (b : Bool). if b then with_slot instr (address + 4) (word_at image (address + 4)) else Stands (record { instr = instr; slot = None })) transfer
+          ∙ ap (with_slot instr (address + 4)) also
+          ∙ ap (λ (b : Bool). if b then Fault TransferInSlot (address + 4) else Stands (record { instr = instr; slot = Some slot })) plain;
+    }

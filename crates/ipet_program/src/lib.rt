@@ -8,6 +8,7 @@ mod certificate;
 mod counts;
 mod crude;
 mod fault;
+mod forward;
 mod growing;
 mod leaf;
 #[cfg(test)]
@@ -19,6 +20,9 @@ mod prices;
 mod program;
 mod rows;
 mod shows;
+mod standing;
+#[cfg(test)]
+mod tests;
 mod turns;
 mod unit;
 

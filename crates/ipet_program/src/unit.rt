@@ -15,7 +15,7 @@ use mips_decode::Instr;
 use net_model::CodeUnit;
 
 /// Whether an instruction is a jump or a branch, which has a delay slot (MIPS I architecture).
-fn has_slot(instr: &Instr) -> bool
+pub fn has_slot(instr: &Instr) -> bool
     ensures { result ≡ is_transfer instr.now }
 {
     match *instr {
@@ -28,7 +28,7 @@ fn has_slot(instr: &Instr) -> bool
 }
 
 /// The instruction of the executable word at an address.
-fn instr_at(image: &Image, address: u32) -> Option<Instr>
+pub fn instr_at(image: &Image, address: u32) -> Option<Instr>
     ensures found { IfSome result (λ i. fetched (code_at image.now.segments) address ≡ Found i) }
     ensures none { IfNone result ((i : Instr) → fetched (code_at image.now.segments) address ≡ Found i → ⊥) }
     ensures valid { IfSome result IsValid }
