@@ -16,3 +16,4 @@ pub mod ListedLemmas
 pub mod TestLemmas
 pub mod FlowSums
 pub mod Low
+pub mod ScopeFlow
