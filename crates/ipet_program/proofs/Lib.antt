@@ -17,3 +17,5 @@ pub mod TestLemmas
 pub mod FlowSums
 pub mod Low
 pub mod ScopeFlow
+pub mod PlaceFlow
+pub mod Turns
