@@ -19,3 +19,4 @@ pub mod Low
 pub mod ScopeFlow
 pub mod PlaceFlow
 pub mod Turns
+pub mod PlaceCaps
