@@ -20,3 +20,4 @@ pub mod ScopeFlow
 pub mod PlaceFlow
 pub mod Turns
 pub mod PlaceCaps
+pub mod Caps
