@@ -112,7 +112,7 @@ abbrev no_arc : NetArc
 no_arc = record { from = 0; to = 0 }
 
 -- Marks of places, summed over what comes to each place, are marks of the arcs' targets.
-marks-into : (net : Net) → HasNumbers net → (counts : ℕ → ℕ) (mark : ℕ → ℤ) → mark 0 ≡ pos 0 →
+pub marks-into : (net : Net) → HasNumbers net → (counts : ℕ → ℕ) (mark : ℕ → ℤ) → mark 0 ≡ pos 0 →
     total_to (length net.places) (λ q. mark q *ℤ flow net counts (into net q))
     ≡ flow net counts (λ j. mark (target_of (item_at j net.arcs)))
 marks-into net numbers counts mark none =

@@ -34,3 +34,8 @@ pub mod Crudely
 pub mod EntryRow
 pub mod EachItems
 pub mod ForwardNets
+pub mod ScopeFlow
+pub mod PlaceFlow
+pub mod Turns
+pub mod PlaceCaps
+pub mod Caps

@@ -127,7 +127,7 @@ back-scope net nested scope place back inst there same held =
     (subst (λ (n : ℕ). item_at n net.places ≡ Some held.place) same held.there) in
     subst (IsWithin net.loops scope) own at
 
-low-arc : (net : Net) (nested : IsNested net) (scope limit number : ℕ) (arc : NetArc) →
+pub low-arc : (net : Net) (nested : IsNested net) (scope limit number : ℕ) (arc : NetArc) →
     item_at number net.arcs ≡ Some arc → 0 < arc.from → 0 < arc.to → Holds net scope arc.from →
     IsLow net nested.ranks.rank scope limit arc.to →
     (IsLow net nested.ranks.rank scope limit arc.from → ⊥) → (IsBack net arc → ⊥) → ⊥
@@ -159,7 +159,7 @@ low-arc net nested scope limit number arc there from to held low free forward =
     ]
 
 -- A back arc to a low place comes from a low one, but for one to the scope's own header.
-low-back : (net : Net) (nested : IsNested net) (scope limit : ℕ) (arc : NetArc) (back : IsBack net arc) →
+pub low-back : (net : Net) (nested : IsNested net) (scope limit : ℕ) (arc : NetArc) (back : IsBack net arc) →
     Holds net scope arc.from → IsLow net nested.ranks.rank scope limit arc.to →
     (IsLow net nested.ranks.rank scope limit arc.from → ⊥) → back.scope ≡ scope
 low-back net nested scope limit arc back held low free =

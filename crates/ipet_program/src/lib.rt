@@ -8,6 +8,7 @@ mod certificate;
 mod counts;
 mod crude;
 mod fault;
+#[cfg(test)]
 mod forward;
 mod growing;
 mod leaf;
@@ -20,6 +21,7 @@ mod prices;
 mod program;
 mod rows;
 mod shows;
+#[cfg(test)]
 mod standing;
 #[cfg(test)]
 mod tests;
