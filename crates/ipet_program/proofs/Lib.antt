@@ -36,6 +36,6 @@ pub mod EachItems
 pub mod ForwardNets
 pub mod ScopeFlow
 pub mod PlaceFlow
-pub mod Turns
+pub mod TurnsAt
 pub mod PlaceCaps
 pub mod Caps
