@@ -1,6 +1,6 @@
 //! A test of small nets whose places' numbers rise along each arc but the back arcs. They are nested.
 
-ghost use Rattle.std.specs.Prelude.{◌≡◌, ◌<◌, ◌≤◌, ◌+◌, ℕ, false, [], All, length};
+ghost use Rattle.std.specs.Prelude.{◌≡◌, ◌<◌, ◌≤◌, ◌+◌, false, [], All, length};
 ghost use Rattle.std.specs.Bool.{OnTrue};
 ghost use Rattle.flow_net.specs.Nested.{IsBack, IsNested};
 ghost use Rattle.flow_net.specs.Numbers.{IsNumberOrZero};
