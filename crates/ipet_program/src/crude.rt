@@ -2,7 +2,6 @@
 
 ghost use Rattle.std.specs.Prelude.{◌≡◌, length};
 ghost use Rattle.flow_net.specs.Scopes.{HasScopes};
-ghost use Rattle.ipet_program.specs.Programs.{crude_of};
 ghost use Rattle.ipet_program.specs.Tables.{AreTurns, IsCrude};
 
 use crate::turns::place_turns;

@@ -11,7 +11,8 @@ ghost use Rattle.flow_net.specs.declared.net.LoopInst.{LoopInst};
 use flow_net::{Context, LoopInst, Net, NetArc, Place};
 
 fn outers_fall(loops: &[LoopInst]) -> bool
-    ensures fall { OnTrue result (EachItem (λ scope (inst : LoopInst). inst.outer < scope) (length loops.now) loops.now) }
+    ensures fall { OnTrue result
+        (EachItem (λ scope (inst : LoopInst). inst.outer < scope) (length loops.now) loops.now) }
 {
     for index in 0..loops.len() {
         if loops[index].outer as usize > index {
