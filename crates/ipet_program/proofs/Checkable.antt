@@ -29,9 +29,11 @@ small-term : (columns column : ℕ) (factor : ℤ) → 1 ≤ column → column �
     All (IsTerm columns) (term_of column factor)
 small-term columns column (pos zero) low high small = All-nil (IsTerm columns)
 small-term columns column (pos (suc n)) low high small =
-    All-cons (IsTerm columns) (record { column = column; factor = pos (suc n) }) [] (low, high, small) (All-nil (IsTerm columns))
+    All-cons (IsTerm columns) (record { column = column; factor = pos (suc n) }) [] (low, high, small)
+    (All-nil (IsTerm columns))
 small-term columns column (negsuc n) low high small =
-    All-cons (IsTerm columns) (record { column = column; factor = negsuc n }) [] (low, high, small) (All-nil (IsTerm columns))
+    All-cons (IsTerm columns) (record { column = column; factor = negsuc n }) [] (low, high, small)
+    (All-nil (IsTerm columns))
 
 small-terms : (columns : ℕ) (factor : ℕ → ℤ) (n : ℕ) → n ≤ columns →
     ((column : ℕ) → IsSmall (factor column)) → All (IsTerm columns) (terms_of factor n)
@@ -83,7 +85,8 @@ small-row equal factor n right few low small =
     }
 
 small-loop_row : (arcs : List NetArc) (held : ℕ → Bool) (found : Option LoopInst) → length arcs ≤ 2 ^ 25 →
-    ((inst : LoopInst) → found ≡ Some inst → inst.bound < 2 ^ 32) → IsSmallRow (length arcs) (loop_row_of arcs held found)
+    ((inst : LoopInst) → found ≡ Some inst → inst.bound < 2 ^ 32) → IsSmallRow (length arcs)
+    (loop_row_of arcs held found)
 small-loop_row arcs held None few bounds =
     record {
       terms = All-nil (IsTerm (length arcs));
@@ -102,7 +105,8 @@ small-rows net holds few bounds =
     let places = numbered (place_row net.arcs) (length net.places) in
     let loops = numbered (loop_row net holds) (length net.loops) in
     All-cons small (entry_row (length net.arcs)) (places ++ loops)
-    (small-row true (λ column. one_if (column == 1)) (length net.arcs) 1 few (omega arith) (λ column. small-one (column == 1)))
+    (small-row true (λ column. one_if (column == 1)) (length net.arcs) 1 few (omega arith)
+    (λ column. small-one (column == 1)))
     (All-append small places loops
     (numbered-all small (place_row net.arcs) (length net.places)
     (λ place low high. small-row true (place_factor net.arcs place) (length net.arcs) 0 few (omega arith)
@@ -119,7 +123,8 @@ is-checkable net holds program few bounds columns rows small values caps =
     record {
       few = omega (arith, columns);
       rows = subst (λ (n : ℕ). All (IsSmallRow n) program.rows) (sym columns)
-          (All-same (IsSmallRow (length net.arcs)) program.rows (rows_of net holds) rows (small-rows net holds few bounds));
+          (All-same (IsSmallRow (length net.arcs)) program.rows (rows_of net holds) rows
+          (small-rows net holds few bounds));
       values = small;
       value = values ∙ sym columns;
       caps = caps ∙ sym columns;

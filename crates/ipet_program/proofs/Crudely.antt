@@ -19,7 +19,8 @@ pub priced-each : (price : ℕ → ℕ) (n : ℕ) (prices : List ℕ) → prices
     (place : ℕ) → 1 ≤ place → place ≤ n → 1 ≤ price place
 priced-each price n prices same all place low high =
     let read : get_or prices (place - 1) 0 ≡ price place =
-    subst (λ (items : List ℕ). get_or items (place - 1) 0 ≡ price place) (sym same) (numbered-get price n place 0 low high) in
+    subst (λ (items : List ℕ). get_or items (place - 1) 0 ≡ price place) (sym same)
+    (numbered-get price n place 0 low high) in
     let count : length prices ≡ n = ap length same ∙ length-numbered price n in
     omega (arith, read, (All-get_or IsPrice prices (place - 1) 0 (omega (arith, count)) all).0)
 

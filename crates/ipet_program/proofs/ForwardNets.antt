@@ -21,15 +21,31 @@ path-more : (arcs : List NetArc) (from : ℕ) (numbers : List ℕ) (middle numbe
     IsPath arcs from (numbers ++ number ∷ []) arc.to
 path-more arcs from [] middle number arc path there same some =
     (omega (arith, path, some), (arc, there, same ∙ sym path, refl))
-path-more arcs from (n ∷ numbers) middle number arc path there same some =
-    (path.0, (path.1.0, path.1.1, path.1.2, path-more arcs path.1.0.to numbers middle number arc path.1.3 there same some))
+path-more arcs from (n ∷ numbers) middle number arc path there same some = (
+  path.0,
+  (
+    path.1.0,
+    path.1.1,
+    path.1.2,
+    path-more arcs path.1.0.to numbers middle number arc
+        path.1.3 there same some,
+  ),
+)
 
 run-more : (arcs : List NetArc) (numbers : List ℕ) (middle number : ℕ) (arc : NetArc) →
     IsRunPath arcs numbers middle → item_at number arcs ≡ Some arc → arc.from ≡ middle → 0 < middle →
     IsRunPath arcs (numbers ++ number ∷ []) arc.to
 run-more arcs [] middle number arc path there same some = absurd path
-run-more arcs (n ∷ numbers) middle number arc path there same some =
-    (path.0, (path.1.0, path.1.1, path.1.2, path-more arcs path.1.0.to numbers middle number arc path.1.3 there same some))
+run-more arcs (n ∷ numbers) middle number arc path there same some = (
+  path.0,
+  (
+    path.1.0,
+    path.1.1,
+    path.1.2,
+    path-more arcs path.1.0.to numbers middle number arc
+        path.1.3 there same some,
+  ),
+)
 
 module _ (net : Net) (is : IsForward net) where
   arc_of : (number : ℕ) (arc : NetArc) → item_at number net.arcs ≡ Some arc → IsForwardArc net number arc
@@ -47,7 +63,8 @@ module _ (net : Net) (is : IsForward net) where
   run-to zero place less number = absurd (omega (arith, less))
   run-to (suc n) place less number =
       let none : Place = record { context = 0; address = 0; scope = 0 } in
-      let reached = (place_of place (get_or net.places (place - 1) none) (item_at-there net.places place none number)).reached in
+      let reached = (place_of place (get_or net.places (place - 1) none)
+      (item_at-there net.places place none number)).reached in
       let arc = arc_of reached.number reached.arc reached.there in
       elim (cases_eq reached.arc.from 0) as (λ _. (numbers : List ℕ) × IsRunPath net.arcs numbers place) [
         | inl e ↦ (
@@ -77,7 +94,11 @@ module _ (net : Net) (is : IsForward net) where
       let none : NetArc = record { from = 0; to = 0 } in
       let some = item_at-within net.arcs is.left.number is.left.arc is.left.there in
       let there : item_at 1 net.arcs ≡ Some (get_or net.arcs (1 - 1) none) =
-      item_at-there net.arcs 1 none (record { from_one = omega arith; within = omega (arith, some.from_one, some.within) }) in
+      item_at-there net.arcs 1 none (record {
+        from_one = omega arith;
+        within = omega
+            (arith, some.from_one, some.within);
+      }) in
       let arc = arc_of 1 (get_or net.arcs (1 - 1) none) there in
       record {
         first = (get_or net.arcs (1 - 1) none, there, arc.first refl, arc.entered (arc.first refl));
@@ -114,10 +135,11 @@ module _ (net : Net) (is : IsForward net) where
   ranks_by =
       record {
         rank = λ place. place;
-        rises = λ number arc there from to other. elim ((arc_of number arc there).rises from to) as (λ _. arc.from < arc.to) [
-          | inl less ↦ less
-          | inr back ↦ absurd (other back)
-        ];
+        rises = λ number arc there from to other. elim ((arc_of number arc there).rises from to) as
+            (λ _. arc.from < arc.to) [
+              | inl less ↦ less
+              | inr back ↦ absurd (other back)
+            ];
       }
 
   pub nested-forward : IsNested net

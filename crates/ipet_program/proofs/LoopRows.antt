@@ -30,7 +30,8 @@ loop-none net nested place outside =
           arith,
           same,
           outside,
-          (item_at-all (λ (i : LoopInst). IsNumberOf net.places i.header) net.loops scope inst nested.numbers.headers there).from_one,
+          (item_at-all (λ (i : LoopInst). IsNumberOf net.places i.header) net.loops scope inst
+              nested.numbers.headers there).from_one,
         )),
         λ none. absurd (run scope inst there none),
       );
@@ -145,7 +146,8 @@ row-next arcs held index arc None there = refl
 row-next arcs held index arc (Some inst) there =
     ap (λ (terms : List Term). record { equal = false; terms = terms; right = pos 0 })
     (ap (λ (at : Option NetArc). terms_of (loop_factor arcs held inst) index
-    ++ term_of (index + 1) (one_if (comes_to inst.header at) -ℤ pos inst.bound *ℤ one_if (is_entering held inst.header at)))
+    ++ term_of (index + 1) (one_if (comes_to inst.header at) -ℤ pos inst.bound *ℤ one_if
+    (is_entering held inst.header at)))
     (sym there)
     ∙ sym (terms_of-more (loop_factor arcs held inst) index))
 

@@ -38,7 +38,8 @@ pub turns-run : (loops : List LoopInst) (within : ℕ → ℕ → Bool) → Tell
     turns_round loops within 0 ≡ 1
 turns-run loops within tells =
     product_to-ones (length loops) (λ outer. if within outer 0 then bound_of (item_at outer loops) else 1)
-    (λ outer low high. ap (λ (b : Bool). if b then bound_of (item_at outer loops) else 1) (not_told (within outer 0) (λ e. apart outer low ((tells outer 0).0 e))))
+    (λ outer low high. ap (λ (b : Bool). if b then bound_of (item_at outer loops) else 1)
+    (not_told (within outer 0) (λ e. apart outer low ((tells outer 0).0 e))))
   where
     apart : (outer : ℕ) → 1 ≤ outer → IsWithin loops outer 0 → ⊥
     apart outer low w =
@@ -51,7 +52,8 @@ module _ (loops : List LoopInst) (chains : ChainsEnd loops) (within : ℕ → �
     (tells : TellsWithin loops within) (scope : ℕ) (inst : LoopInst) (there : item_at scope loops ≡ Some inst) where
   -- At the scope itself stands its bound, and it isn't within the next scope outward.
   factor_here : (if within scope scope then bound_of (item_at scope loops) else 1)
-      ≡ (if scope == scope then inst.bound else 1) * (if within scope inst.outer then bound_of (item_at scope loops) else 1)
+      ≡ (if scope == scope then inst.bound else 1) * (if within scope inst.outer then bound_of
+      (item_at scope loops) else 1)
   factor_here =
       let inside : within scope scope ≡ true = (tells scope scope).1 here in
       let beyond : within scope inst.outer ≡ false =
@@ -65,22 +67,27 @@ module _ (loops : List LoopInst) (chains : ChainsEnd loops) (within : ℕ → �
 
   -- Each other scope is round both or neither.
   factor_else : (outer : ℕ) → (outer ≡ scope → ⊥) → (if within outer scope then bound_of (item_at outer loops) else 1)
-      ≡ (if outer == scope then inst.bound else 1) * (if within outer inst.outer then bound_of (item_at outer loops) else 1)
+      ≡ (if outer == scope then inst.bound else 1) * (if within outer inst.outer then bound_of
+      (item_at outer loops) else 1)
   factor_else outer differ =
       let both : within outer scope ≡ within outer inst.outer =
       same_told (within outer scope) (within outer inst.outer)
-      (λ e. (tells outer inst.outer).1 (within-next loops outer scope inst there (λ same. differ (sym same)) ((tells outer scope).0 e)))
+      (λ e. (tells outer inst.outer).1 (within-next loops outer scope inst there
+      (λ same. differ (sym same)) ((tells outer scope).0 e)))
       (λ e. (tells outer scope).1 (out scope inst there ((tells outer inst.outer).0 e))) in
       rw both (grind (arith, nat_tests))
 
   factor_each : (outer : ℕ) → (if within outer scope then bound_of (item_at outer loops) else 1)
-      ≡ (if outer == scope then inst.bound else 1) * (if within outer inst.outer then bound_of (item_at outer loops) else 1)
+      ≡ (if outer == scope then inst.bound else 1) * (if within outer inst.outer then bound_of
+      (item_at outer loops) else 1)
   factor_each outer =
       elim (cases_eq outer scope)
       as (λ _. (if within outer scope then bound_of (item_at outer loops) else 1)
-      ≡ (if outer == scope then inst.bound else 1) * (if within outer inst.outer then bound_of (item_at outer loops) else 1)) [
+      ≡ (if outer == scope then inst.bound else 1) * (if within outer inst.outer then bound_of
+      (item_at outer loops) else 1)) [
         | inl same ↦ subst (λ (at : ℕ). (if within at scope then bound_of (item_at at loops) else 1)
-            ≡ (if at == scope then inst.bound else 1) * (if within at inst.outer then bound_of (item_at at loops) else 1))
+            ≡ (if at == scope then inst.bound else 1) *
+            (if within at inst.outer then bound_of (item_at at loops) else 1))
             (sym same) factor_here
         | inr differ ↦ factor_else outer differ
       ]
@@ -89,7 +96,8 @@ module _ (loops : List LoopInst) (chains : ChainsEnd loops) (within : ℕ → �
   turns-outward =
       let number = item_at-within loops scope inst there in
       product_to-same (length loops) (λ outer. if within outer scope then bound_of (item_at outer loops) else 1)
-      (λ outer. (if outer == scope then inst.bound else 1) * (if within outer inst.outer then bound_of (item_at outer loops) else 1))
+      (λ outer. (if outer == scope then inst.bound else 1) *
+      (if within outer inst.outer then bound_of (item_at outer loops) else 1))
       (λ outer low high. factor_each outer)
       ∙ product_to-mul (length loops) (λ outer. if outer == scope then inst.bound else 1)
       (λ outer. if within outer inst.outer then bound_of (item_at outer loops) else 1)

@@ -55,7 +55,8 @@ stands-plain image address instr word plain =
     record {
       unit = record { instr = instr; slot = None };
       stands = ap (content_of image address) word
-          ∙ ap (λ (b : Bool). if b then with_slot instr (address + 4) (word_at image (address + 4)) else Stands (record { instr = instr; slot = None })) plain;
+          ∙ ap (λ (b : Bool). if b then with_slot instr (address + 4) (word_at image (address + 4)) else
+          Stands (record { instr = instr; slot = None })) plain;
     }
 
 pub stands-slotted : (image : Image) (address : ℕ) (instr slot : Instr) → word_at image address ≡ Holds instr →
@@ -65,7 +66,9 @@ stands-slotted image address instr slot word transfer also plain =
     record {
       unit = record { instr = instr; slot = Some slot };
       stands = ap (content_of image address) word
-          ∙ ap (λ (b : Bool). if b then with_slot instr (address + 4) (word_at image (address + 4)) else Stands (record { instr = instr; slot = None })) transfer
+          ∙ ap (λ (b : Bool). if b then with_slot instr (address + 4) (word_at image (address + 4)) else
+          Stands (record { instr = instr; slot = None })) transfer
           ∙ ap (with_slot instr (address + 4)) also
-          ∙ ap (λ (b : Bool). if b then Fault TransferInSlot (address + 4) else Stands (record { instr = instr; slot = Some slot })) plain;
+          ∙ ap (λ (b : Bool). if b then Fault TransferInSlot (address + 4) else Stands
+          (record { instr = instr; slot = Some slot })) plain;
     }

@@ -6,7 +6,7 @@ use Rattle.flow_net.specs.declared.net.LoopInst.{LoopInst}
 use Rattle.flow_net.specs.declared.net.Net.{Net}
 use Rattle.flow_net.specs.declared.net.NetArc.{NetArc}
 use Rattle.ipet_program.specs.Costs.{price_limit}
-use Rattle.ipet_program.specs.Programs.{arc_cap, arc_value, crude_limit}
+use Rattle.ipet_program.specs.Programs.{arc_cap, arc_value, crude_limit, crude_of}
 use Rattle.ipet_program.specs.Rows.{loop_factor, one_if, place_factor, rows_of, term_of, terms_of}
 use Rattle.ipet_program.specs.Scopes.{TellsHeld, bound_of, turns_at}
 use Rattle.ipet_program.specs.Sums.{numbered, product_to}
@@ -30,6 +30,16 @@ abbrev pub turns_round : List LoopInst → (ℕ → ℕ → Bool) → ℕ → �
 turns_round loops within scope =
     product_to (length loops) (λ outer. if within outer scope then bound_of (item_at outer loops) else 1)
 
+-- The turns of a scope, whatever the test.
+abbrev pub AreTurnsOf : List LoopInst → (scope turns : ℕ) → Type 0
+AreTurnsOf loops scope turns =
+    (within : ℕ → ℕ → Bool) → TellsWithin loops within → turns ≡ in_128 (turns_round loops within scope)
+
+-- How often the loops round a place let it be visited, whatever the test.
+abbrev pub AreTurnsAt : Net → (place turns : ℕ) → Type 0
+AreTurnsAt net place turns =
+    (holds : ℕ → ℕ → Bool) → TellsHeld net holds → turns ≡ in_128 (turns_at net holds place)
+
 -- The table of the turns of the loop instances.
 abbrev pub AreTurns : List LoopInst → List ℕ → Type 0
 AreTurns loops turns =
@@ -41,6 +51,29 @@ pub record AreChains (loops : List LoopInst) : Type 0 where
   pub outers : All (λ inst. IsNumberOrZero loops inst.outer) loops
   pub ends : ChainsEnd loops
   pub bounds : All (λ inst. 1 ≤ inst.bound) loops
+
+-- The crude bound, of a table of the prices of the places.
+abbrev pub IsCrude : Net → List ℕ → (crude : ℕ) → Type 0
+IsCrude net prices crude =
+    (price : ℕ → ℕ) → prices ≡ numbered price (length net.places) → (holds : ℕ → ℕ → Bool) →
+    TellsHeld net holds → crude ≡ in_128 (crude_of net holds price)
+
+-- The value of each arc, of a table of the prices of the places.
+abbrev pub AreValues : Net → List ℕ → List ℤ → Type 0
+AreValues net prices values =
+    (price : ℕ → ℕ) → price 0 ≡ 0 → prices ≡ numbered price (length net.places) →
+    values ≡ numbered (λ column. arc_value price (item_at column net.arcs)) (length net.arcs)
+
+-- The cap of an arc from a place, and of each arc.
+abbrev pub IsCap : Net → (from cap : ℕ) → Type 0
+IsCap net from cap =
+    (holds : ℕ → ℕ → Bool) → TellsHeld net holds →
+    cap ≡ (if from == 0 then 1 else turns_at net holds from)
+
+abbrev pub AreCaps : Net → List ℕ → Type 0
+AreCaps net caps =
+    (holds : ℕ → ℕ → Bool) → TellsHeld net holds →
+    caps ≡ numbered (λ column. arc_cap net holds (item_at column net.arcs)) (length net.arcs)
 
 -- The loops round each place let it be visited less often than the limit of the crude bound.
 abbrev pub AreLow : Net → Type 0
@@ -62,6 +95,12 @@ abbrev pub grown : (ℕ → Row) → (number column : ℕ) → (factor : ℤ) �
 grown row number column factor place =
     if number == place then with_term (row place) column factor else row place
 
+-- The row of a number gains a term.
+abbrev pub GainTerm : List Row → (number column : ℕ) → (factor : ℤ) → List Row → Type 0
+GainTerm before number column factor after =
+    (row : ℕ → Row) → before ≡ numbered row (length before) →
+    after ≡ numbered (grown row number column factor) (length before)
+
 -- The rows of places by the first arcs alone.
 abbrev pub place_row_to : List NetArc → (count : ℕ) → ℕ → Row
 place_row_to arcs count place =
@@ -70,6 +109,12 @@ place_row_to arcs count place =
 -- The factor of an arc in the row of a place.
 abbrev pub place_part : NetArc → ℕ → ℤ
 place_part arc place = one_if (arc.to == place) -ℤ one_if (arc.from == place)
+
+-- The rows of places gain an arc.
+abbrev pub GainAtPlaces : List Row → (column : ℕ) → NetArc → List Row → Type 0
+GainAtPlaces before column arc after =
+    (row : ℕ → Row) → before ≡ numbered row (length before) →
+    after ≡ numbered (λ place. with_term (row place) column (place_part arc place)) (length before)
 
 -- The rows of loop instances by the first arcs alone.
 abbrev pub loop_row_by : List NetArc → (held : ℕ → Bool) → (count : ℕ) → Option LoopInst → Row
@@ -94,6 +139,19 @@ loop_part held arc (Some inst) =
     one_if (arc.to == inst.header)
     -ℤ pos inst.bound *ℤ one_if ((arc.to == inst.header) && not (held arc.from))
 
+-- The rows of loop instances gain an arc.
+abbrev pub GainAtLoops : Net → List Row → (column : ℕ) → NetArc → List Row → Type 0
+GainAtLoops net before column arc after =
+    (holds : ℕ → ℕ → Bool) → TellsHeld net holds → (row : ℕ → Row) →
+    before ≡ numbered row (length before) →
+    after ≡ numbered
+    (λ scope. with_term (row scope) column (loop_part (holds scope) arc (item_at scope net.loops)))
+    (length before)
+
+-- The rows of a net, whatever the test.
+abbrev pub AreRows : Net → List Row → Type 0
+AreRows net rows = (holds : ℕ → ℕ → Bool) → TellsHeld net holds → rows ≡ rows_of net holds
+
 -- The number of the loop instance with this header; 0 where none has it.
 pub record IsLoopAt (net : Net) (place number : ℕ) : Type 0 where
   pub within : number ≤ length net.loops
@@ -103,9 +161,7 @@ pub record IsLoopAt (net : Net) (place number : ℕ) : Type 0 where
 -- The parts of the program of a net, of a table of the prices of its places.
 pub record HasParts (net : Net) (prices : List ℕ) (program : Program) : Type 0 where
   pub columns : program.columns ≡ length net.arcs
-  pub rows : (holds : ℕ → ℕ → Bool) → TellsHeld net holds → program.rows ≡ rows_of net holds
-  pub value : (price : ℕ → ℕ) → price 0 ≡ 0 → prices ≡ numbered price (length net.places) →
-      program.value ≡ numbered (λ column. arc_value price (item_at column net.arcs)) (length net.arcs)
-  pub caps : (holds : ℕ → ℕ → Bool) → TellsHeld net holds →
-      program.caps ≡ numbered (λ column. arc_cap net holds (item_at column net.arcs)) (length net.arcs)
+  pub rows : AreRows net program.rows
+  pub value : AreValues net prices program.value
+  pub caps : AreCaps net program.caps
   pub stages : program.stages ≡ []

@@ -1,12 +1,11 @@
 //! What the arcs of a net cost, and how often they are taken at most.
 
-ghost use Rattle.std.specs.Prelude.{◌≡◌, ◌==◌, ℕ, Bool, All, IfOk, length, pos, if◌then◌else◌};
-ghost use Rattle.flow_net.specs.Numbers.{IsNumberOrZero, item_at};
+ghost use Rattle.std.specs.Prelude.{◌≡◌, ◌==◌, ℕ, All, IfOk, length, pos};
+ghost use Rattle.flow_net.specs.Numbers.{IsNumberOrZero};
 ghost use Rattle.flow_net.specs.Scopes.{HasScopes};
-ghost use Rattle.ipet_program.specs.Programs.{IsSmall, arc_cap, arc_value};
-ghost use Rattle.ipet_program.specs.Scopes.{TellsHeld, turns_at};
+ghost use Rattle.ipet_program.specs.Programs.{IsSmall};
 ghost use Rattle.ipet_program.specs.Sums.{numbered};
-ghost use Rattle.ipet_program.specs.Tables.{AreLow, AreTurns, IsPrice};
+ghost use Rattle.ipet_program.specs.Tables.{AreCaps, AreLow, AreTurns, AreValues, IsCap, IsPrice};
 
 use crate::turns::place_turns;
 use flow_net::Net;
@@ -17,7 +16,8 @@ use wcet_io::List;
 fn price_of(prices: &[u64], place: u32) -> i64
     requires place { IsNumberOrZero prices.now place }
     requires priced { All IsPrice prices.now }
-    ensures price { (price : ℕ → ℕ) → price 0 ≡ 0 → prices.now ≡ numbered price (length prices.now) → result ≡ pos (price place) }
+    ensures price { (price : ℕ → ℕ) → price 0 ≡ 0 →
+        prices.now ≡ numbered price (length prices.now) → result ≡ pos (price place) }
     ensures small { IsSmall result }
 {
     if place == 0 {
@@ -31,7 +31,7 @@ pub fn values_of(alloc: Global, net: &Net, prices: &[u64]) -> Result<List<i64>, 
     requires ends { All (λ arc. IsNumberOrZero net.now.places arc.to) net.now.arcs }
     requires count { length prices.now ≡ length net.now.places }
     requires priced { All IsPrice prices.now }
-    ensures values { IfOk result (λ values. (price : ℕ → ℕ) → price 0 ≡ 0 → prices.now ≡ numbered price (length net.now.places) → values ≡ numbered (λ column. arc_value price (item_at column net.now.arcs)) (length net.now.arcs)) }
+    ensures values { IfOk result (AreValues net.now prices.now) }
     ensures count { IfOk result (λ values. length values ≡ length net.now.arcs) }
     ensures small { IfOk result (All IsSmall) }
 {
@@ -48,7 +48,7 @@ fn cap_of(net: &Net, turns: &[u128], from: u32) -> u64
     requires scopes { HasScopes net.now }
     requires turns { AreTurns net.now.loops turns.now }
     requires low { AreLow net.now }
-    ensures cap { (holds : ℕ → ℕ → Bool) → TellsHeld net.now holds → result ≡ (if from == 0 then 1 else turns_at net.now holds from) }
+    ensures cap { IsCap net.now from result }
 {
     if from == 0 {
         return 1;
@@ -62,7 +62,7 @@ pub fn caps_of(alloc: Global, net: &Net, turns: &[u128]) -> Result<List<u64>, Al
     requires scopes { HasScopes net.now }
     requires turns { AreTurns net.now.loops turns.now }
     requires low { AreLow net.now }
-    ensures caps { IfOk result (λ caps. (holds : ℕ → ℕ → Bool) → TellsHeld net.now holds → caps ≡ numbered (λ column. arc_cap net.now holds (item_at column net.now.arcs)) (length net.now.arcs)) }
+    ensures caps { IfOk result (AreCaps net.now) }
 {
     let mut caps = List::new(alloc);
     for arc in net.arcs.as_slice() {

@@ -1,6 +1,6 @@
 //! From a net to its program.
 
-ghost use Rattle.std.specs.Prelude.{◌≡◌, ◌≤◌, ◌<◌, ◌^◌, ℕ, All, IfErr, IfOk, length};
+ghost use Rattle.std.specs.Prelude.{◌≡◌, ◌≤◌, ◌<◌, ◌^◌, All, IfErr, IfOk, length};
 ghost use Rattle.flow_net.specs.Nested.{IsNested};
 ghost use Rattle.ipet_program.specs.Faults.{TellsTooLarge};
 ghost use Rattle.ipet_program.specs.Programs.{FitsImage, HasRows, IsCheckable, IsProgramOf, place_price};

@@ -1,11 +1,8 @@
 //! The crude bound of a net's cycles.
 
-ghost use Rattle.std.specs.Prelude.{◌≡◌, ℕ, Bool, length};
+ghost use Rattle.std.specs.Prelude.{◌≡◌, length};
 ghost use Rattle.flow_net.specs.Scopes.{HasScopes};
-ghost use Rattle.ipet_program.specs.Programs.{crude_of};
-ghost use Rattle.ipet_program.specs.Scopes.{TellsHeld};
-ghost use Rattle.ipet_program.specs.Sums.{numbered};
-ghost use Rattle.ipet_program.specs.Tables.{AreTurns, in_128};
+ghost use Rattle.ipet_program.specs.Tables.{AreTurns, IsCrude};
 
 use crate::turns::place_turns;
 use flow_net::Net;
@@ -16,7 +13,7 @@ pub fn crude_of(net: &Net, prices: &[u64], turns: &[u128]) -> u128
     requires scopes { HasScopes net.now }
     requires prices { length prices.now ≡ length net.now.places }
     requires turns { AreTurns net.now.loops turns.now }
-    ensures crude { (price : ℕ → ℕ) → prices.now ≡ numbered price (length net.now.places) → (holds : ℕ → ℕ → Bool) → TellsHeld net.now holds → result ≡ in_128 (crude_of net.now holds price) }
+    ensures crude { IsCrude net.now prices.now result }
 {
     let mut crude: u128 = 0;
     for index in 0..prices.len() {

@@ -1,6 +1,6 @@
 //! A test of small nets whose places' numbers rise along each arc but the back arcs. They are nested.
 
-ghost use Rattle.std.specs.Prelude.{◌≡◌, ◌<◌, ◌≤◌, ◌+◌, ℕ, false, [], All, length};
+ghost use Rattle.std.specs.Prelude.{◌≡◌, ◌<◌, ◌≤◌, ◌+◌, false, [], All, length};
 ghost use Rattle.std.specs.Bool.{OnTrue};
 ghost use Rattle.flow_net.specs.Nested.{IsBack, IsNested};
 ghost use Rattle.flow_net.specs.Numbers.{IsNumberOrZero};
@@ -11,7 +11,8 @@ ghost use Rattle.flow_net.specs.declared.net.LoopInst.{LoopInst};
 use flow_net::{Context, LoopInst, Net, NetArc, Place};
 
 fn outers_fall(loops: &[LoopInst]) -> bool
-    ensures fall { OnTrue result (EachItem (λ scope (inst : LoopInst). inst.outer < scope) (length loops.now) loops.now) }
+    ensures fall { OnTrue result
+        (EachItem (λ scope (inst : LoopInst). inst.outer < scope) (length loops.now) loops.now) }
 {
     for index in 0..loops.len() {
         if loops[index].outer as usize > index {

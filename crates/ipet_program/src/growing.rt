@@ -1,9 +1,9 @@
 //! Rows that get a further term.
 
-ghost use Rattle.std.specs.Prelude.{◌≡◌, ℕ, Bool, IfOk, OnOk, length};
+ghost use Rattle.std.specs.Prelude.{◌≡◌, IfOk, OnOk};
 ghost use Rattle.flow_net.specs.Numbers.{IsNumberOrZero};
 ghost use Rattle.ipet_program.specs.Sums.{numbered};
-ghost use Rattle.ipet_program.specs.Tables.{empty_row, grown, with_term};
+ghost use Rattle.ipet_program.specs.Tables.{GainTerm, empty_row, with_term};
 ghost use Rattle.ipet_program.specs.declared.program.Row.{Row};
 
 use crate::program::{Row, Term};
@@ -38,7 +38,7 @@ fn add_term(row: &mut Row, column: u32, factor: i64) -> Result<(), AllocError>
 /// Adds a term to the row of a number, unless its factor is 0. No row has the number 0.
 pub fn add_at(rows: &mut [Row], number: u32, column: u32, factor: i64) -> Result<(), AllocError>
     requires number { IsNumberOrZero rows.old number }
-    ensures rows { OnOk result ((row : ℕ → Row) → rows.old ≡ numbered row (length rows.old) → rows.new ≡ numbered (grown row number column factor) (length rows.old)) }
+    ensures rows { OnOk result (GainTerm rows.old number column factor rows.new) }
 {
     if number == 0 {
         return Ok(());

@@ -1,13 +1,13 @@
 //! The rows of loop instances: a header is come to at most bound times as often as its loop is entered.
 
-ghost use Rattle.std.specs.Prelude.{◌≡◌, ◌≤◌, ◌<◌, ◌^◌, ◌-ℤ◌, ◌*ℤ◌, not, ℕ, Bool, All, IfOk, OnOk, length, pos};
+ghost use Rattle.std.specs.Prelude.{◌≡◌, ◌≤◌, ◌<◌, ◌^◌, ◌-ℤ◌, ◌*ℤ◌, not, ℕ, Bool, IfOk, OnOk, length, pos};
 ghost use Rattle.flow_net.specs.Nested.{IsNested};
-ghost use Rattle.flow_net.specs.Numbers.{IsNumberOf, IsNumberOrZero, item_at};
+ghost use Rattle.flow_net.specs.Numbers.{IsNumberOrZero};
 ghost use Rattle.flow_net.specs.Scopes.{HasScopes};
 ghost use Rattle.ipet_program.specs.Rows.{loop_row, one_if};
 ghost use Rattle.ipet_program.specs.Scopes.{TellsHeld};
 ghost use Rattle.ipet_program.specs.Sums.{numbered};
-ghost use Rattle.ipet_program.specs.Tables.{AreLoopRows, IsLoopAt, loop_part, with_term};
+ghost use Rattle.ipet_program.specs.Tables.{AreLoopRows, GainAtLoops, IsLoopAt};
 ghost use Rattle.ipet_program.specs.declared.program.Row.{Row};
 
 use crate::growing::{add_at, empty_rows};
@@ -39,7 +39,8 @@ fn loop_at(net: &Net, place: u32) -> u32
 fn is_outside(net: &Net, scope: u32, place: u32) -> bool
     requires scopes { HasScopes net.now }
     requires place { IsNumberOrZero net.now.places place }
-    ensures outside { (holds : ℕ → ℕ → Bool) → TellsHeld net.now holds → result ≡ not (holds scope place) }
+    ensures outside { (holds : ℕ → ℕ → Bool) → TellsHeld net.now holds →
+        result ≡ not (holds scope place) }
 {
     if place == 0 {
         return true;
@@ -63,7 +64,7 @@ fn add_arc(net: &Net, rows: &mut [Row], column: u32, arc: NetArc) -> Result<(), 
     requires from { IsNumberOrZero net.now.places arc.from }
     requires to { IsNumberOrZero net.now.places arc.to }
     requires count { length rows.old ≡ length net.now.loops }
-    ensures rows { OnOk result ((holds : ℕ → ℕ → Bool) → TellsHeld net.now holds → (row : ℕ → Row) → rows.old ≡ numbered row (length rows.old) → rows.new ≡ numbered (λ scope. with_term (row scope) column (loop_part (holds scope) arc (item_at scope net.now.loops))) (length rows.old)) }
+    ensures rows { OnOk result (GainAtLoops net.now rows.old column arc rows.new) }
 {
     let scope = loop_at(net, arc.to);
     if scope == 0 {
@@ -94,7 +95,8 @@ fn add_arcs(net: &Net, rows: &mut [Row]) -> Result<(), AllocError>
 pub fn loop_rows(alloc: Global, net: &Net) -> Result<Vec<Row>, AllocError>
     requires nested { IsNested net.now }
     requires few { length net.now.arcs ≤ 2 ^ 25 }
-    ensures rows { IfOk result (λ rows. (holds : ℕ → ℕ → Bool) → TellsHeld net.now holds → rows.items ≡ numbered (loop_row net.now holds) (length net.now.loops)) }
+    ensures rows { IfOk result (λ rows. (holds : ℕ → ℕ → Bool) → TellsHeld net.now holds →
+        rows.items ≡ numbered (loop_row net.now holds) (length net.now.loops)) }
 {
     let mut rows = empty_rows(alloc, net.loops.as_slice().len(), false)?;
     add_arcs(net, &mut rows)?;

@@ -1,10 +1,10 @@
 //! The rows of places: each is left as often as it is come to.
 
-ghost use Rattle.std.specs.Prelude.{◌≡◌, ◌≤◌, ◌^◌, ℕ, All, IfOk, OnOk, length};
+ghost use Rattle.std.specs.Prelude.{◌≡◌, ◌≤◌, ◌^◌, All, IfOk, OnOk, length};
 ghost use Rattle.flow_net.specs.Numbers.{IsNumberOrZero};
 ghost use Rattle.ipet_program.specs.Rows.{place_row};
 ghost use Rattle.ipet_program.specs.Sums.{numbered};
-ghost use Rattle.ipet_program.specs.Tables.{place_part, place_row_to, with_term};
+ghost use Rattle.ipet_program.specs.Tables.{GainAtPlaces, place_row_to};
 ghost use Rattle.ipet_program.specs.declared.program.Row.{Row};
 
 use crate::growing::{add_at, empty_rows};
@@ -16,7 +16,7 @@ use std::alloc::{AllocError, Global};
 fn add_arc(rows: &mut [Row], column: u32, arc: NetArc) -> Result<(), AllocError>
     requires from { IsNumberOrZero rows.old arc.from }
     requires to { IsNumberOrZero rows.old arc.to }
-    ensures rows { OnOk result ((row : ℕ → Row) → rows.old ≡ numbered row (length rows.old) → rows.new ≡ numbered (λ place. with_term (row place) column (place_part arc place)) (length rows.old)) }
+    ensures rows { OnOk result (GainAtPlaces rows.old column arc rows.new) }
 {
     if arc.from == arc.to {
         return Ok(());
@@ -44,7 +44,8 @@ pub fn place_rows(alloc: Global, net: &Net) -> Result<Vec<Row>, AllocError>
     requires starts { All (λ arc. IsNumberOrZero net.now.places arc.from) net.now.arcs }
     requires ends { All (λ arc. IsNumberOrZero net.now.places arc.to) net.now.arcs }
     requires few { length net.now.arcs ≤ 2 ^ 25 }
-    ensures rows { IfOk result (λ rows. rows.items ≡ numbered (place_row net.now.arcs) (length net.now.places)) }
+    ensures rows { IfOk result (λ rows.
+        rows.items ≡ numbered (place_row net.now.arcs) (length net.now.places)) }
 {
     let mut rows = empty_rows(alloc, net.places.as_slice().len(), true)?;
     add_arcs(&mut rows, net.arcs.as_slice())?;

@@ -1,7 +1,6 @@
 //! What the places of a net cost.
 
-ghost use Rattle.std.specs.Prelude.{◌≡◌, ◌≤◌, All, IfOk, length};
-ghost use Rattle.cache_config.specs.Instructions.{costs_of};
+ghost use Rattle.std.specs.Prelude.{◌≡◌, All, IfOk, length};
 ghost use Rattle.net_model.specs.Units.{content_at};
 ghost use Rattle.ipet_program.specs.Costs.{content_cost};
 ghost use Rattle.ipet_program.specs.Programs.{FitsImage, IsUnitAt, place_price};
@@ -32,7 +31,8 @@ pub fn prices_of(
     image: &Image,
 ) -> Result<Vec<u64>, AllocError>
     requires { FitsImage image.now net.now }
-    ensures prices { IfOk result (λ prices. prices.items ≡ numbered (place_price profile.now image.now net.now) (length net.now.places)) }
+    ensures prices { IfOk result (λ prices.
+        prices.items ≡ numbered (place_price profile.now image.now net.now) (length net.now.places)) }
     ensures count { IfOk result (λ prices. length prices.items ≡ length net.now.places) }
     ensures priced { IfOk result (λ prices. All IsPrice prices.items) }
 {

@@ -1,6 +1,6 @@
 //! A test of whether units of an image stand at the places of a net.
 
-ghost use Rattle.std.specs.Prelude.{◌≡◌, All, IfSome, OnSome, ◌+◌, ◌<◌, ◌^◌};
+ghost use Rattle.std.specs.Prelude.{◌≡◌, IfSome, OnSome, ◌+◌, ◌<◌, ◌^◌};
 ghost use Rattle.std.specs.Bool.{OnTrue};
 ghost use Rattle.net_model.specs.Units.{word_at, Holds};
 ghost use Rattle.ipet_program.specs.Programs.{FitsImage, IsUnitAt};

@@ -1,11 +1,10 @@
 //! How often the loops round a scope let it be visited.
 
-ghost use Rattle.std.specs.Prelude.{◌≡◌, ◌<◌, ◌^◌, ℕ, Bool, All, IfOk, OnOk, length};
+ghost use Rattle.std.specs.Prelude.{◌≡◌, ◌<◌, ◌^◌, ℕ, All, IfOk, OnOk, length};
 ghost use Rattle.flow_net.specs.Numbers.{IsNumberOf, IsNumberOrZero};
 ghost use Rattle.flow_net.specs.Scopes.{HasScopes};
-ghost use Rattle.ipet_program.specs.Scopes.{TellsHeld, turns_at};
 ghost use Rattle.ipet_program.specs.Sums.{numbered};
-ghost use Rattle.ipet_program.specs.Tables.{AreChains, AreTurns, TellsWithin, in_128, turns_round};
+ghost use Rattle.ipet_program.specs.Tables.{AreChains, AreTurns, AreTurnsAt, AreTurnsOf};
 
 use flow_net::{LoopInst, Net};
 use std::alloc::{AllocError, Global};
@@ -15,7 +14,7 @@ use std::alloc::{AllocError, Global};
 fn turns_round(loops: &[LoopInst], inner: usize) -> u128
     requires inner { IsNumberOrZero loops.now inner }
     requires chains { AreChains loops.now }
-    ensures turns { (within : ℕ → ℕ → Bool) → TellsWithin loops.now within → result ≡ in_128 (turns_round loops.now within inner) }
+    ensures turns { AreTurnsOf loops.now inner result }
 {
     let mut turns: u128 = 1;
     let mut scope = inner;
@@ -44,7 +43,8 @@ pub fn turns_of(alloc: Global, loops: &[LoopInst]) -> Result<Vec<u128>, AllocErr
 /// The turns of a scope, of a table of those of the loop instances. The run has one.
 fn scope_turns(turns: &[u128], scope: u32) -> u128
     requires scope { IsNumberOrZero turns.now scope }
-    ensures turns { (of : ℕ → ℕ) → of 0 ≡ 1 → turns.now ≡ numbered of (length turns.now) → result ≡ of scope }
+    ensures turns { (of : ℕ → ℕ) → of 0 ≡ 1 →
+        turns.now ≡ numbered of (length turns.now) → result ≡ of scope }
 {
     if scope == 0 {
         return 1;
@@ -57,7 +57,7 @@ pub fn place_turns(net: &Net, turns: &[u128], place: usize) -> u128
     requires place { IsNumberOf net.now.places place }
     requires scopes { HasScopes net.now }
     requires turns { AreTurns net.now.loops turns.now }
-    ensures turns { (holds : ℕ → ℕ → Bool) → TellsHeld net.now holds → result ≡ in_128 (turns_at net.now holds place) }
+    ensures turns { AreTurnsAt net.now place result }
 {
     scope_turns(turns, net.places.as_slice()[place - 1].scope)
 }

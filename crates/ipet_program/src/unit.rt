@@ -1,6 +1,6 @@
 //! The unit at an address of an image.
 
-ghost use Rattle.std.specs.Prelude.{◌≡◌, ◌+◌, ◌<◌, ◌^◌, ℕ, true, false, None, IfNone, IfSome, OnSome};
+ghost use Rattle.std.specs.Prelude.{◌≡◌, ◌+◌, ◌<◌, ◌^◌, true, false, None, IfNone, IfSome, OnSome};
 ghost use Rattle.elf_mips.specs.Segments.{code_at};
 ghost use Rattle.mips_decode.specs.Step.{Found, fetched};
 ghost use Rattle.mips_decode.specs.Table.{IsValid};
@@ -30,7 +30,8 @@ pub fn has_slot(instr: &Instr) -> bool
 /// The instruction of the executable word at an address.
 pub fn instr_at(image: &Image, address: u32) -> Option<Instr>
     ensures found { IfSome result (λ i. fetched (code_at image.now.segments) address ≡ Found i) }
-    ensures none { IfNone result ((i : Instr) → fetched (code_at image.now.segments) address ≡ Found i → ⊥) }
+    ensures none { IfNone result ((i : Instr) →
+        fetched (code_at image.now.segments) address ≡ Found i → ⊥) }
     ensures valid { IfSome result IsValid }
     ensures low { OnSome result (address + 4 < 2 ^ 32) }
 {
@@ -42,8 +43,10 @@ pub fn instr_at(image: &Image, address: u32) -> Option<Instr>
 fn slot_of(image: &Image, instr: &Instr, address: u32) -> Option<Instr>
     requires { address + 4 < 2 ^ 32 }
     ensures plain { is_transfer instr.now ≡ false → result ≡ None }
-    ensures found { IfSome result (λ i. (is_transfer instr.now ≡ true) × (fetched (code_at image.now.segments) (address + 4) ≡ Found i)) }
-    ensures none { IfNone result ((i : Instr) → is_transfer instr.now ≡ true → fetched (code_at image.now.segments) (address + 4) ≡ Found i → ⊥) }
+    ensures found { IfSome result (λ i. (is_transfer instr.now ≡ true)
+        × (fetched (code_at image.now.segments) (address + 4) ≡ Found i)) }
+    ensures none { IfNone result ((i : Instr) → is_transfer instr.now ≡ true →
+        fetched (code_at image.now.segments) (address + 4) ≡ Found i → ⊥) }
     ensures valid { IfSome result IsValid }
 {
     if !has_slot(instr) {

@@ -14,7 +14,8 @@ loop-arc-preserved c = λ holds told.
     numbered-push (λ column. arc_cap net holds (item_at column net.arcs)) index c.loop-arc.caps c.push.new.self
     c.cap_of.result (c.loop-arc.invariant holds told) c.in_ok-push.ensures.ok
     (c.cap_of.ensures.cap holds told
-    ∙ ap (arc_cap net holds) (sym (item-read net.arcs arcs.result.now index _ (sym arcs.ensures) c.loop-arc-test.true)))
+    ∙ ap (arc_cap net holds) (sym (item-read net.arcs arcs.result.now index _ (sym arcs.ensures)
+    c.loop-arc-test.true)))
 
 pub returns : goal.returns
 returns c = record {

@@ -9,7 +9,8 @@ pub loop-index-preserved : goal.loop-index-preserved
 loop-index-preserved c =
     let net = c.args.net.now in
     let none : NetArc = record { from = 0; to = 0 } in
-    each-next (IsForwardArc net) net.arcs c.loop-index.index none (omega (arith, ap length c.as_slice-arcs.ensures, c.loop-index-test.true))
+    each-next (IsForwardArc net) net.arcs c.loop-index.index none
+    (omega (arith, ap length c.as_slice-arcs.ensures, c.loop-index-test.true))
     c.loop-index.invariant
     (subst (λ (arcs : List NetArc). IsForwardArc net (c.loop-index.index + 1) (get_or arcs c.loop-index.index none))
     c.as_slice-arcs.ensures c.if-not-is_arc.ensures.is)

@@ -17,10 +17,12 @@ scopes_by : (net : Net) (loops : List LoopInst) (places : List Place) → loops 
     All (λ (place : Place). place.scope ≤ length loops) places → HasScopes net
 scopes_by net loops places same also falls scopes =
     let each : EachItem (λ scope (inst : LoopInst). inst.outer < scope) (length net.loops) net.loops =
-    subst (λ (xs : List LoopInst). EachItem (λ scope (inst : LoopInst). inst.outer < scope) (length xs) xs) same falls in
+    subst (λ (xs : List LoopInst). EachItem (λ scope (inst : LoopInst). inst.outer < scope) (length xs)
+    xs) same falls in
     record {
       places = All-same (λ (place : Place). IsNumberOrZero net.loops place.scope) net.places places (sym also)
-          (All-weaker (λ (place : Place). place.scope ≤ length loops) (λ (place : Place). IsNumberOrZero net.loops place.scope)
+          (All-weaker (λ (place : Place). place.scope ≤ length loops)
+          (λ (place : Place). IsNumberOrZero net.loops place.scope)
           (λ place h. omega (arith, h, ap length same)) places scopes);
       loops = each-all (λ (inst : LoopInst). IsNumberOrZero net.loops inst.outer) net.loops
           (λ scope inst there. omega (

@@ -7,7 +7,8 @@ use Rattle.ipet_program.proofs.forward.have_scopes.Goals as goal
 
 pub loop-place-preserved : goal.loop-place-preserved
 loop-place-preserved c =
-    All-more (λ (place : Place). place.scope ≤ c.args.count) c.args.places.now c.loop-place.place-index (record { context = 0; address = 0; scope = 0 })
+    All-more (λ (place : Place). place.scope ≤ c.args.count) c.args.places.now c.loop-place.place-index
+    (record { context = 0; address = 0; scope = 0 })
     c.loop-place-test.true c.loop-place.invariant (omega arith)
 
 pub returns : goal.returns

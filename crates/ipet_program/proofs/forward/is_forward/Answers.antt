@@ -11,7 +11,8 @@ pub returns-clause-nested : goal.returns-clause-nested
 returns-clause-nested c =
     let net = c.args.net.now in
     nested-forward net (record {
-      parents = subst (λ (contexts : List Context). All (λ (context : Context). context.parent < length contexts) contexts)
+      parents = subst (λ (contexts : List Context). All
+          (λ (context : Context). context.parent < length contexts) contexts)
           c.as_slice-3.ensures c.if-not-have_parents.ensures.parents;
       scopes = c.if-not-has_scopes.ensures.scopes;
       places = c.if-not-are_places.ensures.places;

@@ -17,5 +17,6 @@ pub returns : goal.returns
 returns c = record {
   fall =
       let all : c.loop-index.index ≡ length c.args.loops.now = omega arith in
-      subst (λ (n : ℕ). EachItem (λ scope (inst : LoopInst). inst.outer < scope) n c.args.loops.now) all c.loop-index.invariant;
+      subst (λ (n : ℕ). EachItem (λ scope (inst : LoopInst). inst.outer < scope) n c.args.loops.now) all
+      c.loop-index.invariant;
 }

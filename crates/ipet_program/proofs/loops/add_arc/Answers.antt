@@ -23,7 +23,8 @@ returns c = record {
       let is = c.loop_at-scope.ensures.header in
       let inst : LoopInst = get_or c.as_slice.result.now (scope - 1) (record { header = 0; bound = 0; outer = 0 }) in
       let there : item_at scope net.loops ≡ Some inst =
-      item-number net.loops c.as_slice.result.now scope (record { header = 0; bound = 0; outer = 0 }) c.as_slice.ensures
+      item-number net.loops c.as_slice.result.now scope (record { header = 0; bound = 0; outer = 0 })
+      c.as_slice.ensures
       (grind arith) is.within in
       let entering : c.is_outside-entering.result ≡ not (holds scope c.args.arc.from) =
       c.is_outside-entering.ensures.outside holds told in

@@ -15,7 +15,8 @@ loop-index-preserved c = λ holds told.
     let rows = c.loop-index.rows in
     let kept : length rows ≡ length net.loops = c.loop-index.auto.rows ∙ c.requires.count in
     let known : rows ≡ numbered (loop_row_to net holds index) (length rows) =
-    subst (λ (n : ℕ). rows ≡ numbered (loop_row_to net holds index) n) (sym kept) (c.loop-index.invariant holds told) in
+    subst (λ (n : ℕ). rows ≡ numbered (loop_row_to net holds index) n) (sym kept)
+    (c.loop-index.invariant holds told) in
     let next : c.add_arc.new.rows ≡ numbered (loop_row_to net holds (index + 1)) (length rows) =
     c.in_ok-add_arc.ensures.rows holds told (loop_row_to net holds index) known
     ∙ loop_rows-next net holds index (length rows) (get_or c.as_slice-arcs.result.now index none)

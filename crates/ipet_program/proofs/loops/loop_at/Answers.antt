@@ -24,8 +24,13 @@ returns-then-scope-eq0 c =
     let place = get_or c.as_slice.result.now (c.args.place - 1) no_place in
     record {
       header = loop-other net c.requires.nested c.args.place place
-          (item-number net.places c.as_slice.result.now c.args.place no_place c.as_slice.ensures (grind arith) c.requires.place)
-          (λ own there same. omega (arith, (item_at-within net.loops place.scope own there).from_one, c.if-scope-eq0.true));
+          (item-number net.places c.as_slice.result.now c.args.place no_place c.as_slice.ensures
+          (grind arith) c.requires.place)
+          (λ own there same. omega (
+            arith,
+            (item_at-within net.loops place.scope own there).from_one,
+            c.if-scope-eq0.true,
+          ));
     }
 
 pub returns-then-as_slice-scope : goal.returns-then-as_slice-scope
@@ -34,11 +39,13 @@ returns-then-as_slice-scope c =
     let place = get_or c.as_slice.result.now (c.args.place - 1) no_place in
     record {
       header = loop-other net c.requires.nested c.args.place place
-          (item-number net.places c.as_slice.result.now c.args.place no_place c.as_slice.ensures (grind arith) c.requires.place)
+          (item-number net.places c.as_slice.result.now c.args.place no_place c.as_slice.ensures
+          (grind arith) c.requires.place)
           (λ own there same.
           let number = item_at-within net.loops place.scope own there in
           let read : item_at place.scope net.loops ≡ Some (get_or c.as_slice-2.result.now (place.scope - 1) no_loop) =
-          item-number net.loops c.as_slice-2.result.now place.scope no_loop c.as_slice-2.ensures number.from_one number.within in
+          item-number net.loops c.as_slice-2.result.now place.scope no_loop c.as_slice-2.ensures
+          number.from_one number.within in
           c.if-as_slice-scope.true
           (ap (λ (i : LoopInst). i.header) (item_at-same net.loops place.scope _ own read there) ∙ same));
     }
@@ -48,11 +55,15 @@ returns c =
     let net = c.args.net.now in
     let place = get_or c.as_slice.result.now (c.args.place - 1) no_place in
     let at : item_at c.args.place net.places ≡ Some place =
-    item-number net.places c.as_slice.result.now c.args.place no_place c.as_slice.ensures (grind arith) c.requires.place in
+    item-number net.places c.as_slice.result.now c.args.place no_place c.as_slice.ensures (grind arith)
+    c.requires.place in
     let within : place.scope ≤ length net.loops =
-    item_at-all (λ (p : Place). p.scope ≤ length net.loops) net.places c.args.place place c.requires.nested.scopes.places at in
+    item_at-all (λ (p : Place). p.scope ≤ length net.loops) net.places c.args.place place
+    c.requires.nested.scopes.places at in
     record {
-      header = loop-own net c.requires.nested c.args.place place (get_or c.as_slice-2.result.now (place.scope - 1) no_loop) at
-          (item-number net.loops c.as_slice-2.result.now place.scope no_loop c.as_slice-2.ensures (omega (arith, c.if-scope-eq0.false)) within)
+      header = loop-own net c.requires.nested c.args.place place
+          (get_or c.as_slice-2.result.now (place.scope - 1) no_loop) at
+          (item-number net.loops c.as_slice-2.result.now place.scope no_loop c.as_slice-2.ensures
+          (omega (arith, c.if-scope-eq0.false)) within)
           c.if-as_slice-scope.false within;
     }

@@ -17,5 +17,6 @@ returns c = record {
       let net = c.args.net.now in
       rows-back (loop_row net holds) c.in_ok-rows.rows.len (length net.loops) (length net.loops) c.add_arcs.new.rows _
       (omega (arith, c.add_arcs.auto.rows, c.deref_mut.ensures.len))
-      (c.in_ok-add_arcs.ensures.rows holds told ∙ loop_rows-whole net holds (length net.loops)) (λ _. length net.loops);
+      (c.in_ok-add_arcs.ensures.rows holds told ∙ loop_rows-whole net holds (length net.loops))
+      (λ _. length net.loops);
 }

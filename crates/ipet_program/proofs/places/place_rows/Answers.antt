@@ -33,7 +33,8 @@ pub returns : goal.returns
 returns c =
     let made : length c.deref_mut.result.now ≡ length c.args.net.now.places =
     rows-count (λ (number : ℕ). empty_row true) c.deref_mut.result.now c.in_ok-rows.rows.items
-    c.as_slice.result.now c.args.net.now.places c.deref_mut.ensures.value c.in_ok-rows.ensures.rows c.as_slice.ensures in
+    c.as_slice.result.now c.args.net.now.places c.deref_mut.ensures.value c.in_ok-rows.ensures.rows
+    c.as_slice.ensures in
     let known : c.add_arcs.new.rows ≡ numbered (place_row c.args.net.now.arcs) (length c.deref_mut.result.now) =
     subst (λ (arcs : List NetArc). c.add_arcs.new.rows ≡ numbered (place_row arcs) (length c.deref_mut.result.now))
     c.as_slice-2.ensures c.in_ok-add_arcs.ensures.rows in

@@ -16,7 +16,9 @@ there loops scope high some =
     (record { from_one = grind arith; within = high })
 
 pub loop-scope-smaller : goal.loop-scope-smaller
-loop-scope-smaller c = around-outward c.args.loops.now c.requires.chains.outers c.requires.chains.ends c.loop-scope.scope _ (there c.args.loops.now c.loop-scope.scope c.loop-scope.invariant.number c.loop-scope-test.true)
+loop-scope-smaller c = around-outward c.args.loops.now c.requires.chains.outers c.requires.chains.ends
+    c.loop-scope.scope _ (there c.args.loops.now c.loop-scope.scope c.loop-scope.invariant.number
+    c.loop-scope-test.true)
 
 pub loop-scope-preserved : goal.loop-scope-preserved
 loop-scope-preserved c =
@@ -24,11 +26,16 @@ loop-scope-preserved c =
     let scope = c.loop-scope.scope in
     let inst = get_or loops (scope - 1) (record { header = 0; bound = 0; outer = 0 }) in
     record {
-      number = item_at-all (λ (i : LoopInst). IsNumberOrZero loops i.outer) loops scope inst c.requires.chains.outers (there c.args.loops.now c.loop-scope.scope c.loop-scope.invariant.number c.loop-scope-test.true);
+      number = item_at-all (λ (i : LoopInst). IsNumberOrZero loops i.outer) loops scope inst
+          c.requires.chains.outers (there c.args.loops.now c.loop-scope.scope
+          c.loop-scope.invariant.number c.loop-scope-test.true);
       kept = λ within tells.
-          kept-next (turns_round loops within c.args.inner) c.loop-scope.turns (turns_round loops within scope) inst.bound
-          (turns_round loops within inst.outer) c.saturating_mul-turns.result (c.loop-scope.invariant.kept within tells)
-          (turns-outward loops c.requires.chains.ends within tells scope inst (there c.args.loops.now c.loop-scope.scope c.loop-scope.invariant.number c.loop-scope-test.true))
+          kept-next (turns_round loops within c.args.inner) c.loop-scope.turns
+          (turns_round loops within scope) inst.bound
+          (turns_round loops within inst.outer) c.saturating_mul-turns.result
+          (c.loop-scope.invariant.kept within tells)
+          (turns-outward loops c.requires.chains.ends within tells scope inst
+          (there c.args.loops.now c.loop-scope.scope c.loop-scope.invariant.number c.loop-scope-test.true))
           (c.saturating_mul-turns.ensures ∙ ap (λ (x : ℕ). in_128 (c.loop-scope.turns * x)) c.from.ensures);
     }
 
@@ -37,5 +44,6 @@ returns c = record {
   turns = λ within tells.
       kept-last (turns_round c.args.loops.now within c.args.inner) c.loop-scope.turns
       (turns_round c.args.loops.now within c.loop-scope.scope) (c.loop-scope.invariant.kept within tells)
-      (ap (λ (at : ℕ). turns_round c.args.loops.now within at) c.loop-scope-test.false ∙ turns-run c.args.loops.now within tells);
+      (ap (λ (at : ℕ). turns_round c.args.loops.now within at) c.loop-scope-test.false ∙ turns-run
+      c.args.loops.now within tells);
 }
