@@ -26,7 +26,7 @@ use Rattle.ipet_program.proofs.FlowSums.{flow, into, MeetsFlow, out_of}
 use Rattle.ipet_program.proofs.PlaceFlow.{enter, forward-enter, forward-into, header-bound, high-header, high-place, within-both}
 use Rattle.ipet_program.proofs.ScopeFlow.{IsHigh, loop-flow, run-flow}
 use Rattle.ipet_program.proofs.Totals.{total_to-one}
-use Rattle.ipet_program.proofs.TurnsAt.{mul-le, product-positive, product-step, turn, turn-free, turn-held, turn-order, turn-positive}
+use Rattle.ipet_program.proofs.TurnsAt.{product-positive, product-step, turn, turn-free, turn-held, turn-order, turn-positive}
 use Rattle.ipet_program.proofs.Whole.{mul-order}
 
 -- ---- The run begins as often as arc 1 is taken.
