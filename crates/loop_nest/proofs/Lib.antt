@@ -4,6 +4,11 @@ pub mod Laminar
 pub mod ForwardWays
 pub mod HeaderRank
 pub mod Innermost
+-- Laws of the net of a function.
+pub mod NetItems
+pub mod NetScopes
+pub mod NetPaths
+pub mod NestedNet
 pub mod Arcs
 -- The functions' own lemmas.
 mod Bounding
