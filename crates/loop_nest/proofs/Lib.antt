@@ -9,6 +9,9 @@ pub mod NetItems
 pub mod NetScopes
 pub mod NetPaths
 pub mod NestedNet
+pub mod NestLaws
+pub mod NetOnce
+pub mod Ordered
 pub mod Arcs
 -- The functions' own lemmas.
 mod Bounding
