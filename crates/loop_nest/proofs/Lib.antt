@@ -23,14 +23,14 @@ mod Collecting
 mod Irreducibles
 mod Meeting
 mod Nesting
-mod Places
+pub mod Places
 mod Planning
-mod Positions
+pub mod Positions
 mod Ranking
 mod Regular
 mod Removing
 mod Returning
 mod Reversing
 mod Ringing
-mod Seen
+pub mod Seen
 mod Walking

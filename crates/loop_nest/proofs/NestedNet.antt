@@ -23,19 +23,11 @@ use Rattle.net_model.specs.Onward.{onward, returns}
 use Rattle.net_model.specs.Reached.{IsReached}
 use Rattle.net_model.specs.Ways.{GoesOn}
 use Rattle.net_model.specs.Loops.{HasRanks, IsBackArc, IsInBody, IsLoopBound, head, source}
-use Rattle.net_model.specs.Net.{IsInstance, IsLoopAt, IsNet, IsOuterOf, IsPlaceAt, IsScopeOf, LeadsOn, LeadsTo}
+use Rattle.net_model.specs.Net.{IsInstance, IsLoopAt, IsNet, IsOuterOf, IsPlaceAt, IsScopeOf, LeadsOn, LeadsTo, Returns}
 use Rattle.loop_nest.proofs.Dominance.{body-header, entered-at-header, entry-header, same_or_other}
 use Rattle.loop_nest.proofs.NetItems.{instance-at, item-all, item-one, item-positive, item-within, loop-header, loop-of, no-loop, no-place, place-address, place-once, rising-once, scope-at}
 use Rattle.loop_nest.proofs.NetPaths.{ArcOf, Enters, IsArcOf, Leads, arc-of, comes-to, leads-from, leads-on}
 use Rattle.loop_nest.proofs.NetScopes.{IsRanked, body-holds, holds-body, inner-rank}
-
--- A unit of a function that returns.
-pub record Returns (image : Image) (entry : ℕ) : Type 0 where
-  pub address : ℕ
-  pub unit : CodeUnit
-  pub reached : IsReached image entry address
-  pub stands : content_at image address ≡ Stands unit
-  pub returning : returns unit ≡ true
 
 -- All items of a list, by their numbers.
 all-by : {T : Type 0} (P : T → Type 0) (items : List T) → ((number : ℕ) (item : T) → item_at number items ≡ Some item → P item) → All P items

@@ -99,3 +99,11 @@ pub record IsNet (image : Image) (entry : ℕ) (net : Net) : Type 0 where
   pub arcs : (from to : ℕ) → LeadsOn image net from to →
       (number : ℕ) × (1 < number) × (item_at number net.arcs ≡ Some (record { from = from; to = to }))
   pub order : AllPairs IsArcBefore (drop 1 net.arcs)
+
+-- A unit that a function reaches returns.
+pub record Returns (image : Image) (entry : ℕ) : Type 0 where
+  pub address : ℕ
+  pub unit : CodeUnit
+  pub reached : IsReached image entry address
+  pub stands : content_at image address ≡ Stands unit
+  pub returning : returns unit ≡ true
