@@ -9,3 +9,4 @@ pub mod Numbered
 pub mod Terms
 pub mod RunSums
 pub mod RunCounts
+pub mod SumLemmas

@@ -7,4 +7,5 @@ pub mod Programs
 pub mod Counts
 pub mod Trees
 pub mod Leaves
+pub mod Adding
 pub mod Certificates

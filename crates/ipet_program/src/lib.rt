@@ -1,6 +1,7 @@
 //! The integer program of a net, its crude bound, and what a certificate of a bound is.
 #![tactic(auto)]
 
+mod adding;
 mod certificate;
 mod leaf;
 mod price;
