@@ -1,5 +1,5 @@
 -- What the stages of an analysis say of an image.
-use Rattle.std.specs.Prelude.{◌≡◌, ℕ, ◌<◌, ◌≤◌}
+use Rattle.std.specs.Prelude.{◌≡◌, ℕ, ◌<◌}
 use Rattle.cache_config.specs.declared.profile.Profile.{Profile}
 use Rattle.elf_mips.specs.declared.image.Image.{Image}
 use Rattle.flow_net.specs.declared.net.Net.{Net}
@@ -17,7 +17,7 @@ use Rattle.wcet_engine.specs.declared.code.Code.{Code}
 use Rattle.wcet_engine.specs.declared.refusal.RefusalKind.{RefusalKind}
 use Rattle.wcet_engine.specs.declared.refusal.RefusalKind.TheVariants.{Unbuilt, NeverReturns, BoundTooLarge}
 use Rattle.wcet_engine.specs.Clash.{IsLeast}
-use Rattle.wcet_engine.specs.Faults.{HasNoReturn, IsCodeFault, IsTooLarge}
+use Rattle.wcet_engine.specs.Faults.{HasNoReturn, IsCodeFault, IsLargeNet, IsTooLarge}
 use Rattle.wcet_engine.specs.Refusals.{kind_of_code}
 use Rattle.wcet_engine.specs.Table.{IsTable}
 use Rattle.wcet_engine.specs.Unbuilt.{IsUnbuiltAt}
@@ -64,7 +64,11 @@ pub record IsCertified (image : Image) (profile : Profile) (certificate : Certif
   pub is_net : IsNet image image.entry net
   pub certifies : Certifies image profile net certificate
 
--- The crude bound is too large.
+-- The crude bound is too large: that of a net, and that of the entry function's net.
+abbrev pub TellsLargeNet : Image → Profile → Net → Refused → Type 0
+TellsLargeNet image profile net (Fault refusal) = (refusal.kind ≡ BoundTooLarge) × (refusal.place ≡ image.entry) × IsLargeNet image profile net
+TellsLargeNet image profile net Memory = Unit {0}
+
 abbrev pub TellsTooLarge : Image → Profile → Refused → Type 0
 TellsTooLarge image profile (Fault refusal) = (refusal.kind ≡ BoundTooLarge) × (refusal.place ≡ image.entry) × IsTooLarge image profile
 TellsTooLarge image profile Memory = Unit {0}

@@ -57,13 +57,16 @@ HasNoReturn image =
     (address : ℕ) (unit : CodeUnit) → IsReached image image.entry address → content_at image address ≡ Stands unit →
     returns unit ≡ false
 
--- The crude bound of the entry function's net is above its limit: the price of each place, times the bounds of the
--- loops that hold it.
+-- The crude bound of a net is above its limit: the price of each place, times the bounds of the loops that hold it.
+abbrev pub IsLargeNet : Image → Profile → Net → Type 0
+IsLargeNet image profile net =
+    (holds : ℕ → ℕ → Bool) → TellsHeld net holds → crude_limit < crude_of net holds (place_price profile image net)
+
+-- The crude bound of the entry function's net is above its limit.
 pub record IsTooLarge (image : Image) (profile : Profile) : Type 0 where
   pub net : Net
   pub is_net : IsNet image image.entry net
-  pub large : (holds : ℕ → ℕ → Bool) → TellsHeld net holds →
-      crude_limit < crude_of net holds (place_price profile image net)
+  pub large : IsLargeNet image profile net
 
 abbrev pub IsPlainTooLarge : Image → Type 0
 IsPlainTooLarge image = (profile : Profile) → IsPlain profile → IsTooLarge image profile

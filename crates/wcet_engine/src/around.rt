@@ -42,13 +42,15 @@ fn inner_of(loops: &[Loop], other: u32, position: usize) -> u32
 fn note_body(reached: &[Reached], loops: &[Loop], position: usize, around: &mut [u32])
     requires function { AreOfFunction reached.now loops.now }
     requires position { position < length loops.now }
-    requires few { length loops.now < 2 ^ 31 }
+    requires few { length reached.now < 2 ^ 31 }
+    requires few_loops { length loops.now < 2 ^ 31 }
     requires before { AreNearest reached.now loops.now position around.old }
     ensures { AreNearest reached.now loops.now (position + 1) around.new }
 {
-    let header = loops[position].header;
-    for address in loops[position].body.as_slice() {
-        if *address == header {
+    let one = &loops[position];
+    let body = one.body.as_slice();
+    for address in body {
+        if *address == one.header {
             continue;
         }
         let place = position_of(reached, *address);
@@ -66,7 +68,8 @@ pub fn around_of(
     loops: &[Loop],
 ) -> Result<Vec<u32>, AllocError>
     requires function { AreOfFunction reached.now loops.now }
-    requires few { length loops.now < 2 ^ 31 }
+    requires few { length reached.now < 2 ^ 31 }
+    requires few_loops { length loops.now < 2 ^ 31 }
     ensures { IfOk result (λ around. AreNearest reached.now loops.now (length loops.now) around.items) }
 {
     let mut around = vec![in alloc; 0; reached.len()]?;
@@ -114,7 +117,8 @@ pub fn instances_of(
 /// Makes the scopes of the units from the loops round them: a header's scope is its own loop.
 pub fn own_headers(reached: &[Reached], loops: &[Loop], numbers: &mut [u32])
     requires function { AreOfFunction reached.now loops.now }
-    requires few { length loops.now < 2 ^ 31 }
+    requires few { length reached.now < 2 ^ 31 }
+    requires few_loops { length loops.now < 2 ^ 31 }
     requires around { AreNearest reached.now loops.now (length loops.now) numbers.old }
     ensures { AreScopes reached.now loops.now (length loops.now) numbers.new }
 {

@@ -5,7 +5,7 @@ use Rattle.wcet_engine.specs.Arcs.{AreArcs, arcs_from, leaves, targets_of}
 use Rattle.wcet_engine.specs.Table.{steps_in}
 use Rattle.wcet_engine.specs.declared.table.Steps.{Steps}
 use Rattle.std.proofs.lemmas.Option.{slice_get_within}
-use Rattle.wcet_engine.proofs.NetLemmas.{entry_reached}
+use Rattle.wcet_engine.proofs.WayArcs.{entry_reached}
 use Rattle.wcet_engine.proofs.WayArcs.{arcs-more, row-read}
 use Rattle.wcet_engine.proofs.net.arcs_of.Goals as goal
 
