@@ -17,7 +17,7 @@ use Rattle.loop_nest.proofs.NetItems.{instance-at, item-all, item-one, loop-head
 use Rattle.loop_nest.proofs.Ordered.{items-same, ordered-same}
 
 -- Keys that rise, as a list of their own.
-keys-rise : {T : Type 0} (key : T → ℕ) (items : List T) → AllPairs (λ (a b : T). key a < key b) items → AllPairs (λ (a b : ℕ). a < b) (map key items)
+pub keys-rise : {T : Type 0} (key : T → ℕ) (items : List T) → AllPairs (λ (a b : T). key a < key b) items → AllPairs (λ (a b : ℕ). a < b) (map key items)
 keys-rise key [] rising = λ i j d less inside. absurd (omega (arith, inside))
 keys-rise key (one ∷ more) rising = λ i j d less inside.
     let count = length-map (one ∷ more) key in

@@ -181,3 +181,12 @@ pub header-among : (image : Image) (entry : ℕ) (reached : List Reached) (loops
 header-among image entry reached loops contents nest one listed =
     let is = All-contains (IsLoop image entry) loops one nest.each listed in
     contents.whole one.header (header-reached image entry one.header is.headed)
+
+-- The number at a unit that is looked at next is that of an earlier loop.
+pub nearing-low : (reached : List Reached) (loops : List Loop) (done : ℕ) (body numbers : List ℕ) (k d place : ℕ) →
+    AllPairs (λ (a b : ℕ). a < b) body → k < length body → IsAt reached place (get_or body k d) → place < length numbers →
+    AreNearing reached loops done (take k body) numbers → IsNearestBy loops done (get_or body k d) (get_or numbers place 0)
+nearing-low reached loops done body numbers k d place rising inside at within are =
+    subst (λ (a : ℕ). IsNearestBy loops done a (get_or numbers place 0)) at.same
+    (are.left place (get_or numbers place 0) at.one at.there (slice_get-get_or numbers place 0 within)
+    (λ among. not-before body k d rising inside (subst (Contains (take k body)) at.same among)))

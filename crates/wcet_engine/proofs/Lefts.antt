@@ -64,7 +64,7 @@ found-none test (one ∷ more) none k other there =
     none-by test one more other (λ rest at here. found-none test more rest at other here) (test one) refl none k there
 
 -- What is reached, with what stands there.
-stands-there : (image : Image) (entry : ℕ) (reached : List Reached) (position : ℕ) (one : Reached) → AreReached image entry reached →
+pub stands-there : (image : Image) (entry : ℕ) (reached : List Reached) (position : ℕ) (one : Reached) → AreReached image entry reached →
     slice_get reached position ≡ Some one → one.content ≡ content_at image one.address
 stands-there image entry reached position one are there =
     subst (λ (r : Reached). r.content ≡ content_at image r.address) (get_or_from_slice_get reached position one one there)

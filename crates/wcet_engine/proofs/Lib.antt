@@ -18,3 +18,8 @@ pub mod Told
 pub mod Lefts
 pub mod ScopeLists
 pub mod Solved
+pub mod NetLoops
+pub mod NetLemmas
+pub mod Few
+pub mod Certified
+pub mod ArcCount

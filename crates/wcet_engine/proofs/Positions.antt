@@ -29,7 +29,7 @@ same_place reached p q x y rise e f same = elim (cases_order p q) as (λ _. p �
   | inr (inr less) ↦ absurd (let up : y.address < x.address = greater reached q p y x rise f e less in omega arith)
 ]
 
-later_place : (reached : List Reached) (p q : ℕ) (x y : Reached) → Rise reached → slice_get reached p ≡ Some x →
+pub later_place : (reached : List Reached) (p q : ℕ) (x y : Reached) → Rise reached → slice_get reached p ≡ Some x →
     slice_get reached q ≡ Some y → x.address < y.address → p < q
 later_place reached p q x y rise e f up = elim (cases_order p q) as (λ _. p < q) [
   | inl here ↦ absurd (

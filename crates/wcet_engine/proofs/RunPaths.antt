@@ -63,7 +63,7 @@ no_unit_there image unit low stands =
     let no = ap (λ (o : Option ℕ). o) none in cc
 
 -- A unit stands at each address that is reached.
-stands-at : (image : Image) (entry address : ℕ) → HasNoFault image entry → IsReached image entry address →
+pub stands-at : (image : Image) (entry address : ℕ) → HasNoFault image entry → IsReached image entry address →
     (content : Content) → content_at image address ≡ content → (unit : CodeUnit) × (content_at image address ≡ Stands unit)
 stands-at image entry address faultless reached (Stands unit) same = (unit, same)
 stands-at image entry address faultless reached (Fault kind place) same =

@@ -1,5 +1,6 @@
 -- The certificate of a leaf that shows the greatest value, and of counts that have it.
-use Rattle.std.proofs.Common.{◌≡◌, ℕ, ◌≤◌, List, [], ◌∷◌, All, pos, ℤ, ◌≤ℤ◌, refl, sym, ap, subst, ◌∙◌, arith, ints}
+use Rattle.std.proofs.Common.{◌≡◌, ℕ, ◌≤◌, List, [], ◌∷◌, All, pos, ℤ, ◌≤ℤ◌, refl, sym, ap, subst, ◌∙◌, arith}
+use Rattle.std.proofs.lemmas.Int.{ints}
 use Rattle.std.proofs.lemmas.List.Elements.{All-nil}
 use Rattle.ipet_program.specs.Certificates.{AreValid, IsValid}
 use Rattle.ipet_program.specs.Counts.{IsMet, listed, value_of}

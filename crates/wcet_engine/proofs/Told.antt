@@ -7,13 +7,13 @@ use Rattle.wcet_engine.specs.declared.top.Status.TheVariants.{Done, Refused, Wri
 use Rattle.wcet_engine.specs.Answers.{IsAnswer}
 use Rattle.wcet_engine.specs.Outcomes.{Told, Wrote}
 
-pub told-wrote : (file : Option (List ℕ)) (given : Answer) (status : Status) (before now : Option (List ℕ)) → IsAnswer file given →
+pub told_wrote : (file : Option (List ℕ)) (given : Answer) (status : Status) (before now : Option (List ℕ)) → IsAnswer file given →
     Told given status before now → Wrote file status before now
-told-wrote file (answer.Analysed analysis) status before now holds (inl (same, taken)) =
+told_wrote file (answer.Analysed analysis) status before now holds (inl (same, taken)) =
     subst (λ (s : Status). Wrote file s before now) (sym same) (record { analysis = analysis; holds = holds; taken = taken })
-told-wrote file (answer.Refused refusal) status before now holds (inl (same, taken)) =
+told_wrote file (answer.Refused refusal) status before now holds (inl (same, taken)) =
     subst (λ (s : Status). Wrote file s before now) (sym same) (record { refusal = refusal; holds = holds; taken = taken })
-told-wrote file given status before now holds (inr (inl (same, taken))) =
+told_wrote file given status before now holds (inr (inl (same, taken))) =
     subst (λ (s : Status). Wrote file s before now) (sym same) (record { given = given; holds = holds; taken = taken })
-told-wrote file given status before now holds (inr (inr (same, kept))) =
+told_wrote file given status before now holds (inr (inr (same, kept))) =
     subst (λ (s : Status). Wrote file s before now) (sym same) kept

@@ -1,5 +1,5 @@
 -- The arcs of a function's net, from the positions of its units. The number of a place is its position and 1.
-use Rattle.std.specs.Prelude.{◌≡◌, ℕ, ◌+◌, ◌<◌, ◌⊎◌, Bool, true, false, List, [], ◌∷◌, ◌++◌, length, map, All, AllPairs, Contains, Some, slice_get, if◌then◌else◌}
+use Rattle.std.specs.Prelude.{◌≡◌, ℕ, ◌+◌, ◌<◌, ◌⊎◌, Bool, true, false, List, [], ◌∷◌, ◌++◌, length, map, count_by, All, AllPairs, Contains, Some, slice_get, if◌then◌else◌}
 use Rattle.elf_mips.specs.declared.image.Image.{Image}
 use Rattle.flow_net.specs.declared.net.NetArc.{NetArc}
 use Rattle.flow_net.specs.declared.net.Place.{Place}
@@ -34,6 +34,10 @@ pub record ArePlaces (reached : List Reached) (scopes : List ℕ) (done : ℕ) (
 abbrev pub leaves : Content → Bool
 leaves (Stands unit) = returns unit
 leaves (Fault kind place) = false
+
+-- How many of them return.
+abbrev pub returns_in : List Reached → ℕ
+returns_in reached = count_by (λ (one : Reached). leaves one.content) reached
 
 -- The targets of a unit's arcs: the places that may follow, and 0 behind a return.
 abbrev pub ends_of : Bool → List ℕ

@@ -1,11 +1,11 @@
 //! The net of a function without calls.
 
-ghost use Rattle.std.specs.Prelude.{◌≡◌, ◌+◌, ◌^◌, ◌<◌, ◌++◌, All, ℕ, length, map, IfOk, IfSome};
+ghost use Rattle.std.specs.Prelude.{◌≡◌, ◌+◌, ◌*◌, ◌^◌, ◌<◌, ◌≤◌, ◌++◌, All, ℕ, length, map, IfOk, IfSome};
 ghost use Rattle.elf_mips.specs.declared.image.Image.{Image};
 ghost use Rattle.net_model.specs.Net.{IsNet};
 ghost use Rattle.unit_graph.specs.Contents.{AreReached};
 ghost use Rattle.loop_nest.specs.Nests.{IsNest};
-ghost use Rattle.wcet_engine.specs.Arcs.{AreArcs, ArePlaces, IsOfFunction, arcs_from, ends_of, leaves, targets_of};
+ghost use Rattle.wcet_engine.specs.Arcs.{AreArcs, ArePlaces, IsOfFunction, arcs_from, ends_of, leaves, returns_in, targets_of};
 ghost use Rattle.wcet_engine.specs.Around.{AreOfFunction};
 ghost use Rattle.wcet_engine.specs.Table.{IsTable, listed, steps_in};
 
@@ -98,7 +98,8 @@ fn arcs_of(
     requires code { IsOfFunction entry reached.now }
     requires table { IsTable reached.now table.now }
     requires few { length reached.now < 2 ^ 31 }
-    ensures { IfOk result (λ arcs. AreArcs reached.now table.now entry (length reached.now) arcs.items) }
+    ensures arcs { IfOk result (λ arcs. AreArcs reached.now table.now entry (length reached.now) arcs.items) }
+    ensures few { IfOk result (λ arcs. length arcs.items + returns_in reached.now ≤ 1 + 2 * length reached.now) }
 {
     let first = position_of(reached, entry);
     let mut arcs = Vec::new(alloc);
@@ -133,8 +134,9 @@ pub fn net_of(
     requires table { IsTable reached.now table.now }
     requires few { length reached.now < 2 ^ 31 }
     requires few_loops { length loops.now < 2 ^ 31 }
-    ensures { IfOk result (λ net.
+    ensures net { IfOk result (λ net.
         (image : Image) → AreReached image entry reached.now → IsNest image entry loops.now → IsNet image entry net) }
+    ensures few { IfOk result (λ net. length net.arcs + returns_in reached.now ≤ 1 + 2 * length reached.now) }
 {
     let arcs = arcs_of(alloc, entry, reached, table)?;
     let mut scopes = around_of(alloc, reached, loops)?;

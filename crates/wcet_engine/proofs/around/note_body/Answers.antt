@@ -7,7 +7,7 @@ use Rattle.wcet_engine.specs.Around.{AreNearing}
 use Rattle.wcet_engine.specs.Rows.{addresses_of}
 use Rattle.wcet_engine.specs.Table.{IsAt}
 use Rattle.wcet_engine.proofs.AroundLaws.{loop-at}
-use Rattle.wcet_engine.proofs.AroundLists.{body-among, nearing-all, nearing-skip, nearing-write}
+use Rattle.wcet_engine.proofs.AroundLists.{body-among, nearing-all, nearing-low, nearing-skip, nearing-write}
 use Rattle.wcet_engine.proofs.ScopeLists.{nearest-low}
 use Rattle.wcet_engine.proofs.around.note_body.Goals as goal
 
@@ -54,7 +54,23 @@ inner_of-requires-clause-rising c =
     λ k d inside. (nest.each k d inside).rising
 
 pub inner_of-requires-clause-other : goal.inner_of-requires-clause-other
-inner_of-requires-clause-other c = ?
+inner_of-requires-clause-other c =
+    let (image, entry, contents, nest) = c.requires.function in
+    let reached = c.args.reached.now in
+    let loops = c.args.loops.now in
+    let l = c.index-loops-position.result in
+    let there : slice_get loops c.args.position ≡ Some l = slice_get_read loops (length loops) c.args.position l refl c.requires.position c.index-loops-position.is in
+    let body : c.as_slice-body.result.now ≡ l.body = c.as_slice-body.ensures in
+    let idx = c.loop-address.address-index in
+    let inside : idx < length l.body = subst (λ (b : List ℕ). idx < length b) body c.loop-address-test.true in
+    let place = c.position_of-place.result in
+    let at : IsAt reached place (get_or l.body idx 0) = subst (λ (b : List ℕ). IsAt reached place (get_or b idx 0)) body c.position_of-place.ensures in
+    let before = subst (λ (b : List ℕ). AreNearing reached loops c.args.position (take idx b) c.loop-address.around) body c.loop-address.invariant in
+    let within : place < length c.loop-address.around = omega (arith, slice_get_within reached place at.one at.there, c.loop-address.invariant.count) in
+    let low = nearest-low loops c.args.position (get_or l.body idx 0) (get_or c.loop-address.around place 0)
+    (nearing-low reached loops c.args.position l.body c.loop-address.around idx 0 place
+    (loop-at image entry loops nest c.args.position l there).rising inside at within before) in
+    omega (arith, low, c.requires.position)
 
 pub offset_bounds-around-place-in-loop-address : goal.offset_bounds-around-place-in-loop-address
 offset_bounds-around-place-in-loop-address c =
