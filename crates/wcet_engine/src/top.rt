@@ -39,7 +39,6 @@ ghost use Rattle.wcet_engine.specs.Outcomes.{Told, Wrote, status_of};
 /// Analyses the file that the words name, and writes the answer to the sink.
 ///
 /// All output is made before the first byte is written.
-#[tactic(auto, using(crate::proofs::Told::told_wrote))]
 pub fn wcet_main<F: Shelf, O: Sink>(
     alloc: Global,
     words: &[String],
