@@ -10,3 +10,14 @@ pub mod Terms
 pub mod RunSums
 pub mod RunCounts
 pub mod SumLemmas
+pub mod WeightLemmas
+pub mod ShowLemmas
+pub mod ListedLemmas
+pub mod TestLemmas
+pub mod FlowSums
+pub mod Low
+pub mod ScopeFlow
+pub mod PlaceFlow
+pub mod Turns
+pub mod PlaceCaps
+pub mod Caps

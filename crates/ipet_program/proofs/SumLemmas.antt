@@ -1,15 +1,17 @@
 -- Adding parts to the columns' sums, one list of parts behind another.
-use Rattle.std.proofs.Common.{◌≡◌, ◌≢◌, ℕ, zero, suc, ◌+◌, ◌-◌, ◌≤◌, ◌<◌, Bool, true, false, cond, List, [], ◌∷◌, ◌++◌, length, take, drop, get_or, map, refl, sym, ap, ◌∙◌, subst, inl, inr, ◌⊎◌, arith}
-use Rattle.std.specs.Prelude.{◌==◌, filter, FitsSigned, slice_set}
-use Rattle.std.specs.Int.{w128}
+use Rattle.std.proofs.Common.{◌≡◌, ℕ, ◌+◌, ◌-◌, ◌≤◌, ◌<◌, Bool, true, false, cond, List, [], ◌∷◌, ◌++◌, length, take, drop, get_or, map, Some, refl, sym, ap, ◌∙◌, subst, inl, inr, arith}
+use Rattle.std.specs.Prelude.{◌==◌, filter, slice_set}
 use Rattle.std.proofs.lemmas.Bool.{cases_eq}
 use Rattle.std.proofs.lemmas.Bool.Decides.{nat_tests}
 use Rattle.std.proofs.lemmas.Int.{ints}
 use Rattle.std.proofs.lemmas.List.{get_or-set_other, get_or-set_same, map-append, take-append-drop, take_more}
 use Rattle.std.proofs.lemmas.List.Elements.{filter-append}
 use lib.IntN.{ℤ, pos, ◌+ℤ◌, ◌*ℤ◌, +ℤ_assoc, +ℤ_idr}
-use Rattle.ipet_program.specs.Adding.{AreAdded, Fit, HaveRoom, sum_in, terms_parts}
-use Rattle.ipet_program.specs.Leaves.{FitFrom, total}
+use lib.Signed.{◌≤ℤ◌}
+use Rattle.ipet_program.specs.Adding.{AreAdded, Fit, HaveRoom, IsTaken, sum_in, terms_parts}
+use Rattle.ipet_program.specs.Leaves.{cut_row, cut_row_by, FitFrom, IsSigned, total}
+use Rattle.ipet_program.specs.declared.leaf.Side2.{Side2}
+use Rattle.ipet_program.specs.declared.program.Row.{Row}
 use Rattle.ipet_program.specs.declared.program.Term.{Term}
 use Rattle.ipet_program.proofs.Exchange.{total-append}
 
@@ -114,17 +116,17 @@ term-sum sums times term value less from is column low =
       | inl same ↦ subst (λ (c : ℕ). sum_in (slice_set sums (term.column - 1) value) c
           ≡ sum_in sums c +ℤ total (terms_parts c times (term ∷ []))) (sym same)
           (
-            let read = get_or-set_same sums (term.column - 1) value (pos 0) less in
-            let parts : total (terms_parts term.column times (term ∷ [])) ≡ times *ℤ term.factor +ℤ pos 0 =
-            ap total (own-parts times term) in
-            omega (arith, ints)
+          let read = get_or-set_same sums (term.column - 1) value (pos 0) less in
+          let parts : total (terms_parts term.column times (term ∷ [])) ≡ times *ℤ term.factor +ℤ pos 0 =
+          ap total (own-parts times term) in
+          omega (arith, ints)
           )
       | inr differ ↦
-        let read = get_or-set_other sums (term.column - 1) (column - 1) value (pos 0)
-        (λ e. differ (omega (arith, e))) in
-        let parts : total (terms_parts column times (term ∷ [])) ≡ pos 0 =
-        ap total (other-parts times term column differ) in
-        omega (arith, ints)
+          let read = get_or-set_other sums (term.column - 1) (column - 1) value (pos 0)
+          (λ e. differ (omega (arith, e))) in
+          let parts : total (terms_parts column times (term ∷ [])) ≡ pos 0 =
+          ap total (other-parts times term column differ) in
+          omega (arith, ints)
     ]
 
 pub term-added : (columns : ℕ) (sums : List ℤ) (times : ℤ) (term : Term) (value : ℤ) → columns ≤ length sums →
@@ -163,13 +165,51 @@ room-more {X = X} parts appends columns first middle last xs i d less one other 
     subst (λ (ys : List X). HaveRoom columns first last (parts ys)) (sym (take_more xs i d less))
     (room-join parts appends columns first middle last (take i xs) (get_or xs i d ∷ []) one other)
 
+pub fit-at : {X : Type 0} (parts : List X → ℕ → List ℤ) → Appends parts → (columns : ℕ)
+    (first middle : List ℤ) (xs : List X) (i : ℕ) (d : X) → i < length xs →
+    HaveRoom columns first middle (parts (take i xs)) → Fit columns first (parts xs) →
+    Fit columns middle (parts (get_or xs i d ∷ []))
+fit-at {X = X} parts appends columns first middle xs i d less one fit =
+    let split : xs ≡ take (i + 1) xs ++ drop (i + 1) xs = sym (take-append-drop (i + 1) xs) in
+    let front = fit-first parts appends columns first (take (i + 1) xs) (drop (i + 1) xs)
+    (subst (λ (ys : List X). Fit columns first (parts ys)) split fit) in
+    fit-later parts appends columns first middle (take i xs) (get_or xs i d ∷ []) one.added
+    (subst (λ (ys : List X). Fit columns first (parts ys)) (take_more xs i d less) front)
+
 pub fit-fails : {X : Type 0} (parts : List X → ℕ → List ℤ) → Appends parts → (columns : ℕ)
     (first middle : List ℤ) (xs : List X) (i : ℕ) (d : X) → i < length xs →
     HaveRoom columns first middle (parts (take i xs)) → (Fit columns middle (parts (get_or xs i d ∷ [])) → ⊥) →
     Fit columns first (parts xs) → ⊥
-fit-fails {X = X} parts appends columns first middle xs i d less one wide fit =
-    let split : xs ≡ take (i + 1) xs ++ drop (i + 1) xs = sym (take-append-drop (i + 1) xs) in
-    let front = fit-first parts appends columns first (take (i + 1) xs) (drop (i + 1) xs)
-    (subst (λ (ys : List X). Fit columns first (parts ys)) split fit) in
-    wide (fit-later parts appends columns first middle (take i xs) (get_or xs i d ∷ []) one.added
-    (subst (λ (ys : List X). Fit columns first (parts ys)) (take_more xs i d less) front))
+fit-fails parts appends columns first middle xs i d less one wide fit =
+    wide (fit-at parts appends columns first middle xs i d less one fit)
+
+-- ---- Rows.
+pub row-taken : (columns : ℕ) (old new : List ℤ) (right times sum : ℤ) (row : Row) → IsSigned times (Some row) →
+    HaveRoom columns old new (λ column. terms_parts column times row.terms) →
+    FitFrom right ((times *ℤ row.right) ∷ []) → sum ≡ right +ℤ times *ℤ row.right →
+    IsTaken columns old new right times (Some row) sum
+row-taken columns old new right times sum row signed room fit is =
+    record {
+      may = record { signed = signed; left = room.fit; other = fit };
+      added = room.added;
+      total_right = omega (arith, ints);
+    }
+
+unequal_by : (upper : Bool) (column at : ℕ) → (cut_row_by upper column at).equal ≡ false
+unequal_by true column at = refl
+unequal_by false column at = refl
+
+-- The row of a cut has <=.
+pub cut-unequal : (cut : Side2) → (cut_row cut).equal ≡ false
+cut-unequal cut = unequal_by cut.upper cut.column cut.at
+
+pub cut-taken : (columns : ℕ) (old new : List ℤ) (right times sum : ℤ) (cut : Side2) (terms : List Term) (side : ℤ) →
+    (cut_row cut).terms ≡ terms → (cut_row cut).right ≡ side → pos 0 ≤ℤ times →
+    HaveRoom columns old new (λ column. terms_parts column times terms) →
+    FitFrom right ((times *ℤ side) ∷ []) → sum ≡ right +ℤ times *ℤ side →
+    IsTaken columns old new right times (Some (cut_row cut)) sum
+cut-taken columns old new right times sum cut terms side same also low room fit is =
+    row-taken columns old new right times sum (cut_row cut) (λ _. low)
+    (subst (λ (ts : List Term). HaveRoom columns old new (λ column. terms_parts column times ts)) (sym same) room)
+    (subst (λ (z : ℤ). FitFrom right ((times *ℤ z) ∷ [])) (sym also) fit)
+    (is ∙ ap (λ (z : ℤ). right +ℤ times *ℤ z) (sym also))

@@ -1,5 +1,5 @@
 -- The sum of a row that is written by its factors.
-use Rattle.std.proofs.Common.{◌≡◌, ℕ, zero, suc, List, [], ◌∷◌, ◌++◌, refl, sym, ap, ◌∙◌, arith}
+use Rattle.std.proofs.Common.{◌≡◌, ℕ, zero, suc, List, [], ◌∷◌, ◌++◌, refl, arith}
 use Rattle.std.proofs.lemmas.Int.{ints}
 use lib.IntN.{ℤ, pos, negsuc, ◌+ℤ◌, ◌*ℤ◌}
 use Rattle.ipet_program.specs.Counts.{row_sum}
@@ -7,7 +7,7 @@ use Rattle.ipet_program.specs.Rows.{term_of, terms_of}
 use Rattle.ipet_program.specs.declared.program.Term.{Term}
 use Rattle.ipet_program.proofs.Totals.{total_to}
 
-row_sum-append : (counts : ℕ → ℕ) (terms others : List Term) →
+pub row_sum-append : (counts : ℕ → ℕ) (terms others : List Term) →
     row_sum counts (terms ++ others) ≡ row_sum counts terms +ℤ row_sum counts others
 row_sum-append counts [] others = omega (arith, ints)
 row_sum-append counts (term ∷ terms) others =

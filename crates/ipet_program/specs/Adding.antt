@@ -1,5 +1,5 @@
 -- What a pass over the rows of a leaf adds to a sum for each column, and to the right side.
-use Rattle.std.specs.Prelude.{◌≡◌, ℕ, ◌-◌, ◌≤◌, ◌==◌, ℤ, pos, ◌+ℤ◌, ◌*ℤ◌, ◌≤ℤ◌, List, [], ◌∷◌, map, filter, All, Option, slice_index_or}
+use Rattle.std.specs.Prelude.{◌≡◌, ℕ, ◌-◌, ◌≤◌, ◌==◌, ℤ, pos, ◌+ℤ◌, ◌*ℤ◌, List, map, filter, All, Option, slice_index_or}
 use Rattle.flow_net.specs.Numbers.{item_at, IsNumberOf}
 use Rattle.ipet_program.specs.Leaves.{all_rows, column_parts, FitFrom, IsSigned, parts_in, right_part, right_parts, total}
 use Rattle.ipet_program.specs.declared.leaf.Side2.{Side2}
@@ -44,6 +44,15 @@ pub record IsTaken (columns : ℕ) (old new : List ℤ) (right times : ℤ) (row
   pub may : MayTake columns old right times row
   pub added : AreAdded columns old new (λ column. parts_in column times row)
   pub total_right : sum ≡ right +ℤ total (right_part times row)
+
+-- The row of a weight may be taken, and has been taken.
+pub record MayTakeWeight (program : Program) (cuts : List Side2) (sums : List ℤ) (right : ℤ) (weight : Weight) : Type 0 where
+  pub numbered : IsNumberOf (all_rows program cuts) weight.row
+  pub may : MayTake program.columns sums right weight.times (item_at weight.row (all_rows program cuts))
+
+pub record IsWeightTaken (program : Program) (cuts : List Side2) (old new : List ℤ) (right : ℤ) (weight : Weight) (sum : ℤ) : Type 0 where
+  pub numbered : IsNumberOf (all_rows program cuts) weight.row
+  pub taken : IsTaken program.columns old new right weight.times (item_at weight.row (all_rows program cuts)) sum
 
 -- The rows of these weights may be taken, from the sums and the right side on.
 pub record MayTakeAll (program : Program) (cuts : List Side2) (sums : List ℤ) (right : ℤ) (weights : List Weight) : Type 0 where

@@ -49,7 +49,7 @@ AreValid program bound (cuts ∷ others) [] = ⊥
 AreValid program bound (cuts ∷ others) (Split column at ∷ more) =
     IsSplit program cuts column at
     × AreValid program bound
-        ((cuts ++ first_part column at ∷ []) ∷ (cuts ++ second_part column at ∷ []) ∷ others) more
+    ((cuts ++ first_part column at ∷ []) ∷ (cuts ++ second_part column at ∷ []) ∷ others) more
 AreValid program bound (cuts ∷ others) (End leaf ∷ more) =
     IsLeaf program cuts bound leaf × AreValid program bound others more
 

@@ -1,5 +1,5 @@
 -- Which counts a program allows, and their value.
-use Rattle.std.specs.Prelude.{◌≡◌, ℕ, suc, ◌<◌, ◌≤◌, ◌==◌, Bool, true, false, ℤ, pos, ◌+ℤ◌, ◌*ℤ◌, ◌≤ℤ◌, List, [], ◌∷◌, All, Option, Some, None, sum_by, count_by, if◌then◌else◌}
+use Rattle.std.specs.Prelude.{◌≡◌, ℕ, suc, ◌<◌, ◌≤◌, ◌==◌, Bool, true, false, ℤ, pos, ◌+ℤ◌, ◌*ℤ◌, ◌≤ℤ◌, List, [], ◌∷◌, All, AllPairs, Option, Some, None, sum_by, count_by, if◌then◌else◌}
 use Rattle.flow_net.specs.Numbers.{item_at}
 use Rattle.flow_net.specs.declared.net.NetArc.{NetArc}
 use Rattle.net_model.specs.Moments.{arcs_of, Moment}
@@ -47,6 +47,16 @@ listed (count ∷ more) column = if count.column == column then count.number els
 -- The listed counts name columns of the program.
 abbrev pub NamesColumns : Program → List Count → Type 0
 NamesColumns program counts = All (λ count. (1 ≤ count.column) × (count.column ≤ program.columns)) counts
+
+-- Listed counts are those of a value: they name columns, are feasible and have the value.
+pub record AreCounts (program : Program) (counts : List Count) (value : ℕ) : Type 0 where
+  pub named : NamesColumns program counts
+  pub feasible : IsFeasible program (listed counts)
+  pub reached : value_of program (listed counts) ≡ pos value
+
+-- The columns of listed counts rise.
+abbrev pub Rise : List Count → Type 0
+Rise counts = AllPairs (λ count other. count.column < other.column) counts
 
 -- An arc costs what the place costs that it goes to.
 abbrev pub arc_cost : (ℕ → ℕ) → Option NetArc → ℕ

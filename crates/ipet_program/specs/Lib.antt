@@ -8,4 +8,5 @@ pub mod Counts
 pub mod Trees
 pub mod Leaves
 pub mod Adding
+pub mod Shown
 pub mod Certificates

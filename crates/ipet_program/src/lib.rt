@@ -3,11 +3,17 @@
 
 mod adding;
 mod certificate;
+mod counts;
 mod leaf;
+#[cfg(test)]
+mod leaf_tests;
 mod price;
 mod program;
+mod shows;
 
 pub use certificate::{Certificate, Count, Node};
+pub use counts::are_counts;
 pub use leaf::{Leaf, Side2, Weight};
 pub use price::unit_price;
 pub use program::{Program, Row, Stage, Term};
+pub use shows::shows_leaf;

@@ -1,0 +1,6 @@
+-- Each sum before this one is 0.
+use Rattle.std.proofs.Common.{◌≡◌, ℕ, ◌<◌, get_or, pos}
+use Rattle.ipet_program.proofs.shows.clear.Given as goal
+
+abbrev pub invariant-loop-sum : goal.invariant-loop-sum
+invariant-loop-sum l = (k : ℕ) → k < l.sum-index → get_or l.sums k (pos 0) ≡ pos 0
