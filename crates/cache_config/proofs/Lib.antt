@@ -1,0 +1,9 @@
+-- Lemmas on profiles.
+pub mod ValueLemmas
+pub mod FirstLemmas
+pub mod OrderLemmas
+pub mod EmptyLemmas
+pub mod PlaceLemmas
+pub mod RegionLoop
+pub mod FaultlessLemmas
+pub mod TextLemmas

@@ -1,11 +1,31 @@
 //! Profiles: what a machine's instructions and memory cost, and where a program's data may lie.
 #![tactic(auto)]
 
+mod checks;
 mod costs;
+mod fault;
+mod first;
+mod keys;
+mod paths;
 mod profile;
+mod read;
+mod spans;
+mod values;
 
 pub use costs::Costs;
+pub use fault::ConfigFault;
 pub use profile::{Cycles, Profile, Region};
+pub use read::read_profile;
 
 #[cfg(test)]
+mod fault_tests;
+#[cfg(test)]
+mod limit_tests;
+#[cfg(test)]
+mod region_tests;
+#[cfg(test)]
+mod test_texts;
+#[cfg(test)]
 mod tests;
+#[cfg(test)]
+mod value_tests;

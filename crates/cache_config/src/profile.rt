@@ -102,6 +102,8 @@ pub struct Profile {
     pub cycles: Cycles,
     /// The further regions of memory, at most 16, apart from each other and from the stack.
     pub regions: List<Region>,
+    /// Whether the text has the key `cache`, which isn't built yet.
+    pub unbuilt: bool,
     pub ghost memory_limit: { memory ≤ most_cycles },
     pub ghost store_limit: { store ≤ most_cycles },
     pub ghost splits_limit: { splits ≤ most_splits },
@@ -119,7 +121,7 @@ pub struct Profile {
 }
 
 impl Profile {
-    ghost use Rattle.std.specs.Prelude.{None};
+    ghost use Rattle.std.specs.Prelude.{None, false};
     ghost use Rattle.cache_config.specs.Costs.{EachTakes};
 
     /// The profile with the default of each number, no caches and no further regions.
@@ -136,6 +138,7 @@ impl Profile {
         ensures entry { result.entry ≡ None }
         ensures cycles { EachTakes 1 result.cycles }
         ensures regions { result.regions ≡ [] }
+        ensures unbuilt { result.unbuilt ≡ false }
     {
         Profile {
             memory: 10,
@@ -148,6 +151,7 @@ impl Profile {
             entry: None,
             cycles: Cycles::each(1),
             regions: List::new(alloc),
+            unbuilt: false,
         }
     }
 }

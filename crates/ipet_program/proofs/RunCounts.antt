@@ -1,17 +1,18 @@
 -- The counts of a run are feasible for the program of its net, and their value is the run's cycles.
-use Rattle.std.proofs.Common.{◌≡◌, ℕ, suc, ◌+◌, ◌≤◌, Bool, true, false, List, [], ◌∷◌, ◌++◌, length, All, Option, Some, None, refl, sym, ap, ◌∙◌, subst, inl, inr, ◌⊎◌, arith}
-use Rattle.std.specs.Prelude.{◌==◌, ◌&&◌, not}
+use Rattle.std.proofs.Common.{◌≡◌, ℕ, zero, suc, ◌+◌, ◌*◌, ◌≤◌, ◌<◌, Bool, true, false, cond, List, [], ◌∷◌, ◌++◌, length, map, All, Option, Some, None, refl, sym, ap, ◌∙◌, subst, inl, inr, ◌⊎◌, arith}
+use Rattle.std.specs.Prelude.{◌==◌, ◌&&◌, not, sum_by, if◌then◌else◌}
 use Rattle.std.proofs.lemmas.Bool.Decides.{nat_tests}
 use Rattle.std.proofs.lemmas.Int.{ints}
 use Rattle.std.proofs.lemmas.List.Elements.{All-append, All-cons, All-same}
 use Rattle.std.proofs.lemmas.List.Sums.{sum_by-cons}
-use lib.IntN.{ℤ, pos, ◌-ℤ◌, ◌*ℤ◌}
+use Rattle.std.proofs.lemmas.Option.{same_Some}
+use lib.IntN.{ℤ, pos, negsuc, ◌+ℤ◌, ◌-ℤ◌, ◌*ℤ◌}
 use lib.Signed.{◌≤ℤ◌}
-use Rattle.flow_net.specs.Numbers.{item_at}
+use Rattle.flow_net.specs.Numbers.{item_at, IsNumberOf}
 use Rattle.flow_net.specs.Paths.{IsPath, IsRunPath}
 use Rattle.flow_net.specs.Scopes.{Holds}
 use Rattle.flow_net.specs.Visits.{KeepsBound, KeepsBounds, target_of, targets_along}
-use Rattle.flow_net.specs.Visits.KeepsBound.{passes, enters, returns}
+use Rattle.flow_net.specs.Visits.KeepsBound.{ends, passes, enters, returns}
 use Rattle.flow_net.specs.declared.net.LoopInst.{LoopInst}
 use Rattle.flow_net.specs.declared.net.Net.{Net}
 use Rattle.flow_net.specs.declared.net.NetArc.{NetArc}
@@ -26,9 +27,10 @@ use Rattle.ipet_program.specs.Scopes.{TellsHeld}
 use Rattle.ipet_program.specs.Sums.{numbered}
 use Rattle.ipet_program.specs.declared.certificate.Certificate.{Certificate}
 use Rattle.ipet_program.specs.declared.program.Program.{Program}
+use Rattle.ipet_program.specs.declared.program.Row.{Row}
 use Rattle.ipet_program.proofs.CertificateLaw.{certificate-bound}
 use Rattle.ipet_program.proofs.Exchange.{IsColumn}
-use Rattle.ipet_program.proofs.Numbered.{All-numbered, item_at-numbered, length-numbered}
+use Rattle.ipet_program.proofs.Numbered.{numbered-all, item_at-numbered, length-numbered}
 use Rattle.ipet_program.proofs.RunSums.{along, chain-columns, chain-of_run, counts-along, IsChain}
 use Rattle.ipet_program.proofs.Terms.{row_sum-terms}
 use Rattle.ipet_program.proofs.Totals.{total_to, total_to-same}
@@ -146,26 +148,26 @@ loop-along net holds told scope inst from left (number ∷ numbers) to chain kee
     elim (keeps-first net scope inst from left arc.to onward goes)
     as (λ _. along (loop_factor net.arcs (holds scope) inst) (number ∷ numbers) ≤ℤ pos left) [
       | inl past ↦
-          let rest = loop-along net holds told scope inst arc.to left numbers to chain.3 past.rest in
-          let none = factor-elsewhere inst.header inst.bound arc.to (held arc.from) past.elsewhere in
-          omega (arith, ints)
+        let rest = loop-along net holds told scope inst arc.to left numbers to chain.3 past.rest in
+        let none = factor-elsewhere inst.header inst.bound arc.to (held arc.from) past.elsewhere in
+        omega (arith, ints)
       | inr (inl into) ↦
-          let rest = loop-along net holds told scope inst arc.to into.turns numbers to chain.3 into.rest in
-          let factor = factor-header inst.header inst.bound arc.to (held arc.from) into.header in
-          let outside : held arc.from ≡ false =
-          not-held (held arc.from) (λ e. into.outside (subst (Holds net scope) chain.2 ((told scope arc.from).0 e))) in
-          let entered : pos inst.bound *ℤ one_if (not (held arc.from)) ≡ pos inst.bound *ℤ pos 1 =
-          ap (λ (test : Bool). pos inst.bound *ℤ one_if (not test)) outside in
-          let many = into.bound in
-          omega (arith, ints)
+        let rest = loop-along net holds told scope inst arc.to into.turns numbers to chain.3 into.rest in
+        let factor = factor-header inst.header inst.bound arc.to (held arc.from) into.header in
+        let outside : held arc.from ≡ false =
+        not-held (held arc.from) (λ e. into.outside (subst (Holds net scope) chain.2 ((told scope arc.from).0 e))) in
+        let entered : pos inst.bound *ℤ one_if (not (held arc.from)) ≡ pos inst.bound *ℤ pos 1 =
+        ap (λ (test : Bool). pos inst.bound *ℤ one_if (not test)) outside in
+        let many = into.bound in
+        omega (arith, ints)
       | inr (inr back) ↦
-          let rest = loop-along net holds told scope inst arc.to back.fewer numbers to chain.3 back.rest in
-          let factor = factor-header inst.header inst.bound arc.to (held arc.from) back.header in
-          let inside : held arc.from ≡ true = (told scope arc.from).1 (subst (Holds net scope) (sym chain.2) back.inside) in
-          let entered : pos inst.bound *ℤ one_if (not (held arc.from)) ≡ pos inst.bound *ℤ pos 0 =
-          ap (λ (test : Bool). pos inst.bound *ℤ one_if (not test)) inside in
-          let many = back.turns in
-          omega (arith, ints)
+        let rest = loop-along net holds told scope inst arc.to back.fewer numbers to chain.3 back.rest in
+        let factor = factor-header inst.header inst.bound arc.to (held arc.from) back.header in
+        let inside : held arc.from ≡ true = (told scope arc.from).1 (subst (Holds net scope) (sym chain.2) back.inside) in
+        let entered : pos inst.bound *ℤ one_if (not (held arc.from)) ≡ pos inst.bound *ℤ pos 0 =
+        ap (λ (test : Bool). pos inst.bound *ℤ one_if (not test)) inside in
+        let many = back.turns in
+        omega (arith, ints)
     ]
 
 -- A row that is written by its factors, with the counts of a run.
@@ -197,11 +199,11 @@ rows-met net holds told moments path keeps =
     (row-along (λ column. one_if (column == 1)) (length net.arcs) moments within
     ∙ entry-run net.arcs (arcs_of moments) 0 path)
     (All-append (IsMet (counts_of moments)) places loops
-    (All-numbered (IsMet (counts_of moments)) (place_row net.arcs) (length net.places)
+    (numbered-all (IsMet (counts_of moments)) (place_row net.arcs) (length net.places)
     (λ place low high. row-along (place_factor net.arcs place) (length net.arcs) moments within
     ∙ place-along net.arcs place 0 (arcs_of moments) 0 chain
     ∙ omega (arith, ints)))
-    (All-numbered (IsMet (counts_of moments)) (loop_row net holds) (length net.loops)
+    (numbered-all (IsMet (counts_of moments)) (loop_row net holds) (length net.loops)
     (λ scope low high. loop-met net holds told moments chain keeps scope (item_at scope net.loops) refl)))
 
 -- ---- The value.

@@ -10,3 +10,6 @@ pub mod Leaves
 pub mod Adding
 pub mod Shown
 pub mod Certificates
+pub mod Tables
+pub mod Faults
+pub mod Forward

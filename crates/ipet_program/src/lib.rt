@@ -2,17 +2,36 @@
 #![tactic(auto)]
 
 mod adding;
+mod arcs;
+mod assemble;
 mod certificate;
 mod counts;
+mod crude;
+mod fault;
+#[cfg(test)]
+mod forward;
+mod growing;
 mod leaf;
 #[cfg(test)]
 mod leaf_tests;
+mod loops;
+mod places;
 mod price;
+mod prices;
 mod program;
+mod rows;
 mod shows;
+#[cfg(test)]
+mod standing;
+#[cfg(test)]
+mod tests;
+mod turns;
+mod unit;
 
+pub use assemble::build;
 pub use certificate::{Certificate, Count, Node};
 pub use counts::are_counts;
+pub use fault::BuildFault;
 pub use leaf::{Leaf, Side2, Weight};
 pub use price::unit_price;
 pub use program::{Program, Row, Stage, Term};

@@ -1,0 +1,17 @@
+-- The arc that was found goes to 0.
+use Rattle.std.proofs.Common.{◌+◌, get_or, refl}
+use Rattle.flow_net.specs.declared.net.NetArc.{NetArc}
+use Rattle.ipet_program.proofs.Numbered.{item-read}
+use Rattle.ipet_program.proofs.forward.is_left.Goals as goal
+
+pub returns-then-arc-eq0 : goal.returns-then-arc-eq0
+returns-then-arc-eq0 c =
+    let none : NetArc = record { from = 0; to = 0 } in
+    record {
+      left = record {
+        number = c.loop-arc.arc-index + 1;
+        arc = get_or c.args.arcs.now c.loop-arc.arc-index none;
+        there = item-read c.args.arcs.now c.args.arcs.now c.loop-arc.arc-index none refl c.loop-arc-test.true;
+        to = c.if-arc-eq0.true;
+      };
+    }

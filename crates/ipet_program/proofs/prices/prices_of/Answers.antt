@@ -1,0 +1,31 @@
+-- Each place's price stands behind the ones before it.
+use Rattle.std.proofs.Common.{◌≡◌, length, ap, ◌∙◌, arith}
+use Rattle.std.proofs.lemmas.List.Elements.{All-push, All-same}
+use Rattle.ipet_program.specs.Programs.{place_price}
+use Rattle.ipet_program.specs.Tables.{IsPrice}
+use Rattle.ipet_program.proofs.Numbered.{length-numbered, numbered-push}
+use Rattle.ipet_program.proofs.Priced.{price-read}
+use Rattle.ipet_program.proofs.prices.prices_of.Goals as goal
+
+pub loop-place-preserved : goal.loop-place-preserved
+loop-place-preserved c =
+    let index = c.loop-place.place-index in
+    let places = c.as_slice-place-items in
+    record {
+      known = numbered-push (place_price c.args.profile.now c.args.image.now c.args.net.now) index
+          c.loop-place.prices.items c.push.new.self.items c.price_at.result c.loop-place.invariant.known
+          c.in_ok-push.ensures.items
+          (price-read c.args.profile.now c.args.image.now c.args.net.now places.result.now index _
+          c.of_profile-costs.result c.price_at.result places.ensures c.loop-place-test.true
+          c.of_profile-costs.ensures c.price_at.ensures.value);
+      priced = All-same IsPrice _ _ c.in_ok-push.ensures.items
+          (All-push IsPrice c.loop-place.prices.items c.price_at.result c.loop-place.invariant.priced
+          c.price_at.ensures.priced);
+    }
+
+pub returns-clause-count : goal.returns-clause-count
+returns-clause-count c =
+    let all : c.loop-place.place-index ≡ length c.args.net.now.places =
+    omega (arith, ap length c.as_slice-place-items.ensures) in
+    ap length c.loop-place.invariant.known
+    ∙ length-numbered (place_price c.args.profile.now c.args.image.now c.args.net.now) c.loop-place.place-index ∙ all

@@ -1,0 +1,45 @@
+//! What the places of a net cost.
+
+ghost use Rattle.std.specs.Prelude.{◌≡◌, ◌≤◌, All, IfOk, length};
+ghost use Rattle.cache_config.specs.Instructions.{costs_of};
+ghost use Rattle.net_model.specs.Units.{content_at};
+ghost use Rattle.ipet_program.specs.Costs.{content_cost};
+ghost use Rattle.ipet_program.specs.Programs.{FitsImage, IsUnitAt, place_price};
+ghost use Rattle.ipet_program.specs.Sums.{numbered};
+ghost use Rattle.ipet_program.specs.Tables.{IsPrice};
+
+use crate::price::unit_price;
+use crate::unit::unit_at;
+use cache_config::{Costs, Profile};
+use elf_mips::Image;
+use flow_net::Net;
+use std::alloc::{AllocError, Global};
+
+/// The cycles of the unit at an address where one stands.
+fn price_at(image: &Image, costs: &Costs, address: u32) -> u64
+    requires { IsUnitAt image.now address }
+    ensures value { result ≡ content_cost costs.now (content_at image.now address) }
+    ensures priced { IsPrice result }
+{
+    unit_price(costs, &unit_at(image, address))
+}
+
+/// The cycles of the unit of each place.
+pub fn prices_of(
+    alloc: Global,
+    net: &Net,
+    profile: &Profile,
+    image: &Image,
+) -> Result<Vec<u64>, AllocError>
+    requires { FitsImage image.now net.now }
+    ensures prices { IfOk result (λ prices. prices.items ≡ numbered (place_price profile.now image.now net.now) (length net.now.places)) }
+    ensures count { IfOk result (λ prices. length prices.items ≡ length net.now.places) }
+    ensures priced { IfOk result (λ prices. All IsPrice prices.items) }
+{
+    let costs = Costs::of_profile(profile);
+    let mut prices = Vec::new(alloc);
+    for place in net.places.as_slice() {
+        prices.push(price_at(image, &costs, place.address))?;
+    }
+    Ok(prices)
+}
