@@ -3,7 +3,7 @@
 ghost use Rattle.std.specs.Prelude.{◌≡◌, ◌≤◌, ◌^◌, ℕ, [], length, IfOk, IfErr};
 ghost use Rattle.flow_net.specs.Nested.{IsNested};
 ghost use Rattle.ipet_program.specs.Certificates.{IsValid};
-ghost use Rattle.ipet_program.specs.Programs.{FitsImage, IsCheckable, IsProgramOf};
+ghost use Rattle.ipet_program.specs.Programs.{FitsImage, IsCheckable, IsProgramOf, crude_limit};
 ghost use Rattle.ipet_program.specs.declared.program.Program.{Program};
 ghost use Rattle.nest_solver.specs.Answers.{ShowsGreatest};
 ghost use Rattle.loop_nest.specs.Nests.{AreNests, IsNest};
@@ -39,7 +39,7 @@ fn entry_loops(nests: &Nests) -> &[Loop]
 
 /// The bound that a leaf shows, by the multiplier of the program's first row.
 fn bound_of(leaf: &Leaf) -> u64
-    requires { (program : Program) × ShowsGreatest program leaf.now }
+    requires { (program : Program) × (shows : ShowsGreatest program leaf.now) × (shows.bound ≤ crude_limit) }
     ensures { (program : Program) (shows : ShowsGreatest program leaf.now) → result ≡ shows.bound }
 {
     let times = leaf.weights.as_slice()[0].times;

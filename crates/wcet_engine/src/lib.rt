@@ -9,6 +9,8 @@ mod clash;
 mod code;
 #[cfg(test)]
 mod code_tests;
+#[cfg(test)]
+mod loop_tests;
 mod net;
 mod refusal;
 #[cfg(test)]
