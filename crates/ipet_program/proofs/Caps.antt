@@ -1,13 +1,13 @@
 -- Counts that meet the rows of places and of loop instances are at most their caps, taken as often as the run begins:
 -- so feasible counts are at most their caps, and their value is at most the crude bound.
-use Rattle.std.proofs.Common.{◌≡◌, ℕ, zero, suc, ◌-◌, ◌*◌, ◌≤◌, Bool, true, false, List, [], ◌∷◌, ◌++◌, length, drop, get_or, All, Option, Some, None, refl, sym, ap, ◌∙◌, subst, inl, inr, arith}
+use Rattle.std.proofs.Common.{◌≡◌, ℕ, zero, suc, ◌+◌, ◌-◌, ◌*◌, ◌≤◌, ◌<◌, ◌^◌, Bool, true, false, List, [], ◌∷◌, ◌++◌, length, drop, get_or, All, Option, Some, None, refl, sym, ap, ◌∙◌, subst, inl, inr, ◌⊎◌, arith}
 use Rattle.std.specs.Prelude.{◌==◌, if◌then◌else◌}
 use Rattle.std.proofs.Math.Nat.{mul-le-mul_left}
 use Rattle.std.proofs.lemmas.Bool.{cases_eq}
 use Rattle.std.proofs.lemmas.Bool.Decides.{nat_tests}
 use Rattle.std.proofs.lemmas.Int.{ints}
 use Rattle.std.proofs.lemmas.List.Elements.{All-cons, All-head, All-nil, All-same, All-tail}
-use lib.IntN.{ℤ, pos, ◌*ℤ◌}
+use lib.IntN.{ℤ, pos, ◌+ℤ◌, ◌*ℤ◌}
 use lib.Signed.{◌≤ℤ◌}
 use Rattle.flow_net.specs.Nested.{IsNested}
 use Rattle.flow_net.specs.Numbers.{item_at, IsNumberOf, IsNumberOrZero}
@@ -25,13 +25,14 @@ use Rattle.ipet_program.specs.Rows.{entry_row, goes_from, loop_row, loop_row_of,
 use Rattle.ipet_program.specs.Scopes.{turns_at}
 use Rattle.ipet_program.specs.Sums.{numbered, sum_to}
 use Rattle.ipet_program.specs.declared.program.Program.{Program}
+use Rattle.ipet_program.specs.declared.program.Row.{Row}
 use Rattle.ipet_program.proofs.Exchange.{IsColumn}
 use Rattle.ipet_program.proofs.FlowSums.{flow, flow-kept, flow-same, into, marks-into, MeetsFlow, out_of}
 use Rattle.ipet_program.proofs.Numbered.{item_at-numbered}
-use Rattle.ipet_program.proofs.PlaceCaps.{place-capped}
+use Rattle.ipet_program.proofs.PlaceCaps.{place-capped, turns-positive}
 use Rattle.ipet_program.proofs.RunCounts.{length-value, value_at-arc}
 use Rattle.ipet_program.proofs.Terms.{row_sum-terms}
-use Rattle.ipet_program.proofs.Totals.{total_to, total_to-one, total_to-order}
+use Rattle.ipet_program.proofs.Totals.{total_to, total_to-one, total_to-order, total_to-same}
 use Rattle.ipet_program.proofs.Values.{value_of-total}
 use Rattle.ipet_program.proofs.Whole.{mul-order}
 
@@ -48,13 +49,13 @@ total_to-part f zero j h low high = absurd (omega arith)
 total_to-part f (suc n) j h low high =
     elim (cases_eq j (suc n)) as (λ _. f j ≤ℤ total_to (suc n) f) [
       | inl same ↦
-          let rest = total_to-positive f n h in
-          let e : f j ≡ f (suc n) = ap f same in
-          omega (arith, ints)
+        let rest = total_to-positive f n h in
+        let e : f j ≡ f (suc n) = ap f same in
+        omega (arith, ints)
       | inr differ ↦
-          let rest = total_to-part f n j h low (omega (arith, differ)) in
-          let last = h (suc n) in
-          omega (arith, ints)
+        let rest = total_to-part f n j h low (omega (arith, differ)) in
+        let last = h (suc n) in
+        omega (arith, ints)
     ]
 
 total_to-pos : (f : ℕ → ℕ) (n : ℕ) → total_to n (λ q. pos (f q)) ≡ pos (sum_to n f)
@@ -135,6 +136,7 @@ cap-inside net holds arc inside =
 
 module _ (net : Net) (price : ℕ → ℕ) (program : Program) (nested : IsNested net)
     (is : IsProgramOf net price program) (counts : ℕ → ℕ) where
+
   meets-of : All (IsMet counts) (drop 1 program.rows) → MeetsFlow net is.holds counts
   meets-of all =
       meets-flow net is.holds counts
@@ -156,20 +158,20 @@ module _ (net : Net) (price : ℕ → ℕ) (program : Program) (nested : IsNeste
   arc-capped meets j arc there =
       elim (cases_eq arc.from 0) as (λ _. counts j ≤ counts 1 * arc_cap net is.holds (Some arc)) [
         | inl outside ↦
-            let first = nested.entered.only j arc there outside in
-            let cap = cap-outside net is.holds arc outside in
-            let product : counts 1 * arc_cap net is.holds (Some arc) ≡ counts 1 * 1 = ap (λ (n : ℕ). counts 1 * n) cap in
-            omega (arith, ap counts first, product)
+          let first = nested.entered.only j arc there outside in
+          let cap = cap-outside net is.holds arc outside in
+          let product : counts 1 * arc_cap net is.holds (Some arc) ≡ counts 1 * 1 = ap (λ (n : ℕ). counts 1 * n) cap in
+          omega (arith, ap counts first, product)
         | inr inside ↦
-            let within = item_at-all (λ (a : NetArc). IsNumberOrZero net.places a.from) net.arcs j arc
-            nested.numbers.starts there in
-            let taken = taken-out net counts j arc there in
-            let capped = out-capped meets arc.from (record { from_one = omega (arith, inside); within = within }) in
-            let cap = cap-inside net is.holds arc inside in
-            let product : counts 1 * arc_cap net is.holds (Some arc) ≡ counts 1 * turns_at net is.holds arc.from =
-            ap (λ (n : ℕ). counts 1 * n) cap in
-            let most : pos (counts j) ≤ℤ pos (counts 1 * turns_at net is.holds arc.from) = omega (arith, ints, taken, capped) in
-            omega (arith, ints, most, product)
+          let within = item_at-all (λ (a : NetArc). IsNumberOrZero net.places a.from) net.arcs j arc
+          nested.numbers.starts there in
+          let taken = taken-out net counts j arc there in
+          let capped = out-capped meets arc.from (record { from_one = omega (arith, inside); within = within }) in
+          let cap = cap-inside net is.holds arc inside in
+          let product : counts 1 * arc_cap net is.holds (Some arc) ≡ counts 1 * turns_at net is.holds arc.from =
+          ap (λ (n : ℕ). counts 1 * n) cap in
+          let most : pos (counts j) ≤ℤ pos (counts 1 * turns_at net is.holds arc.from) = omega (arith, ints, taken, capped) in
+          omega (arith, ints, most, product)
       ]
 
   cap-column : (column : ℕ) → IsColumn (length net.arcs) column →
@@ -265,14 +267,14 @@ module _ (net : Net) (price : ℕ → ℕ) (program : Program) (nested : IsNeste
       elim (cases_eq arc.from 0) as (λ _. arc_cap net is.holds (Some arc) ≤ crude_limit) [
         | inl outside ↦ let cap = cap-outside net is.holds arc outside in omega (arith, cap)
         | inr inside ↦
-            let number : IsNumberOf net.places arc.from =
-            record { from_one = omega (arith, inside); within = within arc refl } in
-            let part = sum_to-part (λ q. price q * turns_at net is.holds q) (length net.places) arc.from number.from_one
-            number.within in
-            let some : turns_at net is.holds arc.from * 1 ≤ turns_at net is.holds arc.from * price arc.from =
-            mul-le-mul_left (turns_at net is.holds arc.from) (is.costly arc.from number) in
-            let cap = cap-inside net is.holds arc inside in
-            omega (arith, part, some, cap, is.low)
+          let number : IsNumberOf net.places arc.from =
+          record { from_one = omega (arith, inside); within = within arc refl } in
+          let part = sum_to-part (λ q. price q * turns_at net is.holds q) (length net.places) arc.from number.from_one
+          number.within in
+          let some : turns_at net is.holds arc.from * 1 ≤ turns_at net is.holds arc.from * price arc.from =
+          mul-le-mul_left (turns_at net is.holds arc.from) (is.costly arc.from number) in
+          let cap = cap-inside net is.holds arc inside in
+          omega (arith, part, some, cap, is.low)
       ]
 
   -- They fit 63 bits.

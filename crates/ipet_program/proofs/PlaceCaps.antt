@@ -1,15 +1,15 @@
 -- A place is come to at most as often as the loops round it let it be visited, for each time that the run begins.
-use Rattle.std.proofs.Common.{◌≡◌, ℕ, zero, suc, ◌+◌, ◌-◌, ◌*◌, ◌≤◌, ◌<◌, Bool, true, false, length, get_or, Option, Some, None, refl, ap, ◌∙◌, subst, inl, inr, arith}
-use Rattle.std.specs.Prelude.{◌==◌}
+use Rattle.std.proofs.Common.{◌≡◌, ℕ, zero, suc, ◌+◌, ◌-◌, ◌*◌, ◌≤◌, ◌<◌, Bool, true, false, List, length, get_or, Option, Some, None, refl, sym, ap, ◌∙◌, subst, inl, inr, ◌⊎◌, arith}
+use Rattle.std.specs.Prelude.{◌==◌, if◌then◌else◌}
 use Rattle.std.proofs.Math.Nat.{mul-le-mul_left}
 use Rattle.std.proofs.lemmas.Bool.{cases_eq}
 use Rattle.std.proofs.lemmas.Bool.Decides.{nat_tests}
 use Rattle.std.proofs.lemmas.Int.{ints}
 use Rattle.std.proofs.lemmas.Option.{none-some}
-use lib.IntN.{ℤ, pos, ◌*ℤ◌}
+use lib.IntN.{ℤ, pos, ◌+ℤ◌, ◌*ℤ◌}
 use lib.Signed.{◌≤ℤ◌}
 use Rattle.flow_net.specs.Nested.{IsNested}
-use Rattle.flow_net.specs.Numbers.{item_at, IsNumberOrZero}
+use Rattle.flow_net.specs.Numbers.{item_at, IsNumberOf, IsNumberOrZero}
 use Rattle.flow_net.specs.Scopes.{Holds, IsWithin}
 use Rattle.flow_net.specs.Scopes.IsWithin.{here, out}
 use Rattle.flow_net.specs.declared.net.LoopInst.{LoopInst}
@@ -19,6 +19,7 @@ use Rattle.flow_net.specs.declared.net.Place.{Place}
 use Rattle.flow_net.proofs.Headers.{header-scope}
 use Rattle.flow_net.proofs.Holds.{holds-place, holds-run}
 use Rattle.flow_net.proofs.Numbers.{item_at-all, item_at-same, item_at-there, item_at-within}
+use Rattle.ipet_program.specs.Programs.{arc_cap}
 use Rattle.ipet_program.specs.Rows.{goes_from, one_if}
 use Rattle.ipet_program.specs.Scopes.{TellsHeld, turns_at}
 use Rattle.ipet_program.specs.Sums.{product_to}
@@ -37,8 +38,8 @@ out-none net nested j differ (Some arc) there =
     elim (cases_eq arc.from 0) as (λ _. one_if (arc.from == 0) ≡ pos 0) [
       | inl outside ↦ absurd (differ (nested.entered.only j arc there outside))
       | inr inside ↦
-          let e : (arc.from == 0) ≡ false = grind (arith, nat_tests) in
-          ap one_if e
+        let e : (arc.from == 0) ≡ false = grind (arith, nat_tests) in
+        ap one_if e
     ]
 
 pub flow-start : (net : Net) (nested : IsNested net) (counts : ℕ → ℕ) →
@@ -119,6 +120,7 @@ combine x f e bound start outer turns one two three four =
 
 module _ (net : Net) (nested : IsNested net) (holds : ℕ → ℕ → Bool) (told : TellsHeld net holds)
     (counts : ℕ → ℕ) (meets : MeetsFlow net holds counts) where
+
   run-holds : (number : ℕ) → 0 < number → number ≤ length net.places → Holds net 0 number
   run-holds number low high =
       let d : Place = record { context = 0; address = 0; scope = 0 } in
@@ -148,9 +150,9 @@ module _ (net : Net) (nested : IsNested net) (holds : ℕ → ℕ → Bool) (tol
       elim (cases_eq number inst.header)
       as (λ _. flow net counts (into net number) ≤ℤ flow net counts (into net inst.header)) [
         | inl same ↦
-            let e : flow net counts (into net number) ≡ flow net counts (into net inst.header) =
-            ap (λ (n : ℕ). flow net counts (into net n)) same in
-            omega (arith, ints)
+          let e : flow net counts (into net number) ≡ flow net counts (into net inst.header) =
+          ap (λ (n : ℕ). flow net counts (into net n)) same in
+          omega (arith, ints)
         | inr differ ↦ loop-flow net nested holds counts meets place.scope inst at number (into net number)
             (high-place net nested number place there) differ
             (forward-into net nested number place there
@@ -189,38 +191,38 @@ module _ (net : Net) (nested : IsNested net) (holds : ℕ → ℕ → Bool) (tol
       as (λ _. flow net counts (into net number) ≤ℤ pos (counts 1 * turns_at net holds number)) [
         | inl outermost ↦ run-cap number place there outermost
         | inr inside ↦
-            let inst : LoopInst = get_or net.loops (place.scope - 1) none in
-            let within = item_at-all (λ (p : Place). IsNumberOrZero net.loops p.scope) net.places number place
-            nested.scopes.places there in
-            let at : item_at place.scope net.loops ≡ Some inst =
-            item_at-there net.loops place.scope none (record { from_one = omega (arith, inside); within = within }) in
-            let falls = nested.scopes.chains.falls place.scope inst at in
-            let first = into-header number place there inst at in
-            let bounded = header-bound net holds counts meets place.scope inst at in
-            elim (cases_eq inst.outer 0)
-            as (λ _. flow net counts (into net number) ≤ℤ pos (counts 1 * turns_at net holds number)) [
-              | inl last ↦ combine (flow net counts (into net number)) (flow net counts (into net inst.header))
-                  (flow net counts (enter net holds place.scope inst)) inst.bound (counts 1) 1
-                  (turns_at net holds number) first bounded (enter-run place.scope inst at last)
-                  (turns-outermost net nested holds told number place there inst at)
-              | inr more ↦
-                  let outer : LoopInst = get_or net.loops (inst.outer - 1) none in
-                  let high = item_at-all (λ (i : LoopInst). IsNumberOrZero net.loops i.outer) net.loops place.scope inst
-                  nested.scopes.loops at in
-                  let next : item_at inst.outer net.loops ≡ Some outer =
-                  item_at-there net.loops inst.outer none (record { from_one = omega (arith, more); within = high }) in
-                  let header = nested.held inst.outer outer next in
-                  let same : header.place.scope ≡ inst.outer =
-                  header-scope net nested inst.outer outer header.place next header.there in
-                  let entered = enter-loop place.scope inst at outer next in
-                  let beyond = place-cap n outer.header header.place header.there
-                  (omega (arith, falls, deep, ap nested.scopes.chains.depth same)) in
-                  combine (flow net counts (into net number)) (flow net counts (into net inst.header))
-                  (flow net counts (enter net holds place.scope inst)) inst.bound (counts 1)
-                  (turns_at net holds outer.header) (turns_at net holds number) first bounded
-                  (omega (arith, ints, entered, beyond))
-                  (turns-inside net nested holds told number place there inst at outer next)
-            ]
+          let inst : LoopInst = get_or net.loops (place.scope - 1) none in
+          let within = item_at-all (λ (p : Place). IsNumberOrZero net.loops p.scope) net.places number place
+          nested.scopes.places there in
+          let at : item_at place.scope net.loops ≡ Some inst =
+          item_at-there net.loops place.scope none (record { from_one = omega (arith, inside); within = within }) in
+          let falls = nested.scopes.chains.falls place.scope inst at in
+          let first = into-header number place there inst at in
+          let bounded = header-bound net holds counts meets place.scope inst at in
+          elim (cases_eq inst.outer 0)
+          as (λ _. flow net counts (into net number) ≤ℤ pos (counts 1 * turns_at net holds number)) [
+            | inl last ↦ combine (flow net counts (into net number)) (flow net counts (into net inst.header))
+                (flow net counts (enter net holds place.scope inst)) inst.bound (counts 1) 1
+                (turns_at net holds number) first bounded (enter-run place.scope inst at last)
+                (turns-outermost net nested holds told number place there inst at)
+            | inr more ↦
+              let outer : LoopInst = get_or net.loops (inst.outer - 1) none in
+              let high = item_at-all (λ (i : LoopInst). IsNumberOrZero net.loops i.outer) net.loops place.scope inst
+              nested.scopes.loops at in
+              let next : item_at inst.outer net.loops ≡ Some outer =
+              item_at-there net.loops inst.outer none (record { from_one = omega (arith, more); within = high }) in
+              let header = nested.held inst.outer outer next in
+              let same : header.place.scope ≡ inst.outer =
+              header-scope net nested inst.outer outer header.place next header.there in
+              let entered = enter-loop place.scope inst at outer next in
+              let beyond = place-cap n outer.header header.place header.there
+              (omega (arith, falls, deep, ap nested.scopes.chains.depth same)) in
+              combine (flow net counts (into net number)) (flow net counts (into net inst.header))
+              (flow net counts (enter net holds place.scope inst)) inst.bound (counts 1)
+              (turns_at net holds outer.header) (turns_at net holds number) first bounded
+              (omega (arith, ints, entered, beyond))
+              (turns-inside net nested holds told number place there inst at outer next)
+          ]
       ]
 
   -- What comes to a place.

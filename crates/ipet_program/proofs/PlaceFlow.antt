@@ -1,9 +1,10 @@
 -- The flow of places and of loops in their scopes.
-use Rattle.std.proofs.Common.{◌≡◌, ℕ, ◌<◌, Bool, true, false, List, length, Option, Some, refl, sym, ap, ◌∙◌, subst, inl, inr, ◌⊎◌, arith}
+use Rattle.std.proofs.Common.{◌≡◌, ℕ, zero, suc, ◌+◌, ◌≤◌, ◌<◌, Bool, true, false, List, length, Option, Some, None, refl, sym, ap, ◌∙◌, subst, inl, inr, ◌⊎◌, arith}
 use Rattle.std.specs.Prelude.{◌==◌, ◌&&◌, not}
 use Rattle.std.proofs.lemmas.Bool.{cases_eq}
 use Rattle.std.proofs.lemmas.Bool.Decides.{nat_tests}
 use Rattle.std.proofs.lemmas.Int.{ints}
+use Rattle.std.proofs.lemmas.Option.{none-some}
 use lib.IntN.{ℤ, pos, ◌+ℤ◌, ◌*ℤ◌}
 use lib.Signed.{◌≤ℤ◌}
 use Rattle.flow_net.specs.Nested.{IsBack, IsNested}
@@ -21,9 +22,10 @@ use Rattle.flow_net.proofs.Within.{within-cases}
 use Rattle.ipet_program.specs.Rows.{comes_to, is_entering, loop_factor, one_if}
 use Rattle.ipet_program.specs.Scopes.{TellsHeld}
 use Rattle.ipet_program.proofs.FlowSums.{flow, flow-same, flow-sum, into, MeetsFlow}
+use Rattle.ipet_program.proofs.Low.{InLow}
 use Rattle.ipet_program.proofs.ScopeFlow.{AreForwardTo, IsHigh}
 use Rattle.ipet_program.proofs.Terms.{row_sum-terms}
-use Rattle.ipet_program.proofs.Totals.{total_to-same, total_to-scaled}
+use Rattle.ipet_program.proofs.Totals.{total_to, total_to-same, total_to-scaled}
 use Rattle.ipet_program.proofs.Whole.{mul-assoc}
 
 -- A scope within another one is that one or deeper.
@@ -44,9 +46,9 @@ within-both loops chains one other w v =
     elim (within-depth loops chains one other w) as (λ _. one ≡ other) [
       | inl same ↦ sym same
       | inr less ↦ elim (within-depth loops chains other one v) as (λ _. one ≡ other) [
-        | inl same ↦ same
-        | inr more ↦ absurd (omega (arith, less, more))
-      ]
+          | inl same ↦ same
+          | inr more ↦ absurd (omega (arith, less, more))
+        ]
     ]
 
 -- A place in its innermost scope.
@@ -72,13 +74,13 @@ high-header net nested scope inst there =
           (holds-place net low.inner inst.header held.place held.there low.holds) in
           elim (within-cases net.loops low.inner scope around) as (λ _. ⊥) [
             | inl same ↦
-                let one : low.inst ≡ inst = item_at-same net.loops scope low.inst inst
-                (subst (λ (n : ℕ). item_at n net.loops ≡ Some low.inst) (sym same) low.there) there in
-                omega (arith, low.low, ap (λ (i : LoopInst). nested.ranks.rank i.header) one)
+              let one : low.inst ≡ inst = item_at-same net.loops scope low.inst inst
+              (subst (λ (n : ℕ). item_at n net.loops ≡ Some low.inst) (sym same) low.there) there in
+              omega (arith, low.low, ap (λ (i : LoopInst). nested.ranks.rank i.header) one)
             | inr below ↦
-                let one : below.inst ≡ inst = item_at-same net.loops scope below.inst inst below.there there in
-                low.apart (within-both net.loops nested.scopes.chains low.inner inst.outer
-                (subst (λ (i : LoopInst). IsWithin net.loops low.inner i.outer) one below.within) low.within)
+              let one : below.inst ≡ inst = item_at-same net.loops scope below.inst inst below.there there in
+              low.apart (within-both net.loops nested.scopes.chains low.inner inst.outer
+              (subst (λ (i : LoopInst). IsWithin net.loops low.inner i.outer) one below.within) low.within)
           ];
     }
 
@@ -102,15 +104,15 @@ forward-into net nested number place there plain =
     as (λ _. (into net number j ≡ pos 0)
     ⊎ ((into net number j ≡ pos 1) × (arc.to ≡ number) × (IsBack net arc → ⊥))) [
       | inl same ↦
-          let e : (arc.to == number) ≡ true = grind (arith, nat_tests) in
-          inr (
-            ap (λ (found : Option NetArc). one_if (comes_to number found)) at ∙ ap one_if e,
-            same,
-            not-back net nested number place there plain arc same,
-          )
+        let e : (arc.to == number) ≡ true = grind (arith, nat_tests) in
+        inr (
+          ap (λ (found : Option NetArc). one_if (comes_to number found)) at ∙ ap one_if e,
+          same,
+          not-back net nested number place there plain arc same,
+        )
       | inr differ ↦
-          let e : (arc.to == number) ≡ false = grind (arith, nat_tests) in
-          inl (ap (λ (found : Option NetArc). one_if (comes_to number found)) at ∙ ap one_if e)
+        let e : (arc.to == number) ≡ false = grind (arith, nat_tests) in
+        inl (ap (λ (found : Option NetArc). one_if (comes_to number found)) at ∙ ap one_if e)
     ]
 
 -- The arcs that enter a loop.
@@ -125,16 +127,16 @@ enter-cases header to inside =
     as (λ _. (one_if ((to == header) && not inside) ≡ pos 0)
     ⊎ ((one_if ((to == header) && not inside) ≡ pos 1) × (to ≡ header) × (inside ≡ false))) [
       | inr differ ↦
-          let e : (to == header) ≡ false = grind (arith, nat_tests) in
-          inl (ap (λ (test : Bool). one_if (test && not inside)) e)
+        let e : (to == header) ≡ false = grind (arith, nat_tests) in
+        inl (ap (λ (test : Bool). one_if (test && not inside)) e)
       | inl same ↦
-          let e : (to == header) ≡ true = grind (arith, nat_tests) in
-          elim inside
-          as (λ (b : Bool). (one_if ((to == header) && not b) ≡ pos 0)
-          ⊎ ((one_if ((to == header) && not b) ≡ pos 1) × (to ≡ header) × (b ≡ false))) [
-            | true ↦ inl (ap (λ (test : Bool). one_if (test && not true)) e)
-            | false ↦ inr (ap (λ (test : Bool). one_if (test && not false)) e, same, refl)
-          ]
+        let e : (to == header) ≡ true = grind (arith, nat_tests) in
+        elim inside
+        as (λ (b : Bool). (one_if ((to == header) && not b) ≡ pos 0)
+        ⊎ ((one_if ((to == header) && not b) ≡ pos 1) × (to ≡ header) × (b ≡ false))) [
+          | true ↦ inl (ap (λ (test : Bool). one_if (test && not true)) e)
+          | false ↦ inr (ap (λ (test : Bool). one_if (test && not false)) e, same, refl)
+        ]
     ]
 
 true-false : (b : Bool) → b ≡ true → b ≡ false → ⊥

@@ -1,17 +1,18 @@
 -- The counts of a run are feasible for the program of its net, and their value is the run's cycles.
-use Rattle.std.proofs.Common.{◌≡◌, ℕ, suc, ◌+◌, ◌≤◌, Bool, true, false, List, [], ◌∷◌, ◌++◌, length, All, Option, Some, None, refl, sym, ap, ◌∙◌, subst, inl, inr, ◌⊎◌, arith}
-use Rattle.std.specs.Prelude.{◌==◌, ◌&&◌, not}
+use Rattle.std.proofs.Common.{◌≡◌, ℕ, zero, suc, ◌+◌, ◌*◌, ◌≤◌, ◌<◌, Bool, true, false, cond, List, [], ◌∷◌, ◌++◌, length, map, All, Option, Some, None, refl, sym, ap, ◌∙◌, subst, inl, inr, ◌⊎◌, arith}
+use Rattle.std.specs.Prelude.{◌==◌, ◌&&◌, not, sum_by, if◌then◌else◌}
 use Rattle.std.proofs.lemmas.Bool.Decides.{nat_tests}
 use Rattle.std.proofs.lemmas.Int.{ints}
 use Rattle.std.proofs.lemmas.List.Elements.{All-append, All-cons, All-same}
 use Rattle.std.proofs.lemmas.List.Sums.{sum_by-cons}
-use lib.IntN.{ℤ, pos, ◌-ℤ◌, ◌*ℤ◌}
+use Rattle.std.proofs.lemmas.Option.{same_Some}
+use lib.IntN.{ℤ, pos, negsuc, ◌+ℤ◌, ◌-ℤ◌, ◌*ℤ◌}
 use lib.Signed.{◌≤ℤ◌}
-use Rattle.flow_net.specs.Numbers.{item_at}
+use Rattle.flow_net.specs.Numbers.{item_at, IsNumberOf}
 use Rattle.flow_net.specs.Paths.{IsPath, IsRunPath}
 use Rattle.flow_net.specs.Scopes.{Holds}
 use Rattle.flow_net.specs.Visits.{KeepsBound, KeepsBounds, target_of, targets_along}
-use Rattle.flow_net.specs.Visits.KeepsBound.{passes, enters, returns}
+use Rattle.flow_net.specs.Visits.KeepsBound.{ends, passes, enters, returns}
 use Rattle.flow_net.specs.declared.net.LoopInst.{LoopInst}
 use Rattle.flow_net.specs.declared.net.Net.{Net}
 use Rattle.flow_net.specs.declared.net.NetArc.{NetArc}
@@ -26,6 +27,7 @@ use Rattle.ipet_program.specs.Scopes.{TellsHeld}
 use Rattle.ipet_program.specs.Sums.{numbered}
 use Rattle.ipet_program.specs.declared.certificate.Certificate.{Certificate}
 use Rattle.ipet_program.specs.declared.program.Program.{Program}
+use Rattle.ipet_program.specs.declared.program.Row.{Row}
 use Rattle.ipet_program.proofs.CertificateLaw.{certificate-bound}
 use Rattle.ipet_program.proofs.Exchange.{IsColumn}
 use Rattle.ipet_program.proofs.Numbered.{numbered-all, item_at-numbered, length-numbered}
@@ -146,26 +148,26 @@ loop-along net holds told scope inst from left (number ∷ numbers) to chain kee
     elim (keeps-first net scope inst from left arc.to onward goes)
     as (λ _. along (loop_factor net.arcs (holds scope) inst) (number ∷ numbers) ≤ℤ pos left) [
       | inl past ↦
-          let rest = loop-along net holds told scope inst arc.to left numbers to chain.3 past.rest in
-          let none = factor-elsewhere inst.header inst.bound arc.to (held arc.from) past.elsewhere in
-          omega (arith, ints)
+        let rest = loop-along net holds told scope inst arc.to left numbers to chain.3 past.rest in
+        let none = factor-elsewhere inst.header inst.bound arc.to (held arc.from) past.elsewhere in
+        omega (arith, ints)
       | inr (inl into) ↦
-          let rest = loop-along net holds told scope inst arc.to into.turns numbers to chain.3 into.rest in
-          let factor = factor-header inst.header inst.bound arc.to (held arc.from) into.header in
-          let outside : held arc.from ≡ false =
-          not-held (held arc.from) (λ e. into.outside (subst (Holds net scope) chain.2 ((told scope arc.from).0 e))) in
-          let entered : pos inst.bound *ℤ one_if (not (held arc.from)) ≡ pos inst.bound *ℤ pos 1 =
-          ap (λ (test : Bool). pos inst.bound *ℤ one_if (not test)) outside in
-          let many = into.bound in
-          omega (arith, ints)
+        let rest = loop-along net holds told scope inst arc.to into.turns numbers to chain.3 into.rest in
+        let factor = factor-header inst.header inst.bound arc.to (held arc.from) into.header in
+        let outside : held arc.from ≡ false =
+        not-held (held arc.from) (λ e. into.outside (subst (Holds net scope) chain.2 ((told scope arc.from).0 e))) in
+        let entered : pos inst.bound *ℤ one_if (not (held arc.from)) ≡ pos inst.bound *ℤ pos 1 =
+        ap (λ (test : Bool). pos inst.bound *ℤ one_if (not test)) outside in
+        let many = into.bound in
+        omega (arith, ints)
       | inr (inr back) ↦
-          let rest = loop-along net holds told scope inst arc.to back.fewer numbers to chain.3 back.rest in
-          let factor = factor-header inst.header inst.bound arc.to (held arc.from) back.header in
-          let inside : held arc.from ≡ true = (told scope arc.from).1 (subst (Holds net scope) (sym chain.2) back.inside) in
-          let entered : pos inst.bound *ℤ one_if (not (held arc.from)) ≡ pos inst.bound *ℤ pos 0 =
-          ap (λ (test : Bool). pos inst.bound *ℤ one_if (not test)) inside in
-          let many = back.turns in
-          omega (arith, ints)
+        let rest = loop-along net holds told scope inst arc.to back.fewer numbers to chain.3 back.rest in
+        let factor = factor-header inst.header inst.bound arc.to (held arc.from) back.header in
+        let inside : held arc.from ≡ true = (told scope arc.from).1 (subst (Holds net scope) (sym chain.2) back.inside) in
+        let entered : pos inst.bound *ℤ one_if (not (held arc.from)) ≡ pos inst.bound *ℤ pos 0 =
+        ap (λ (test : Bool). pos inst.bound *ℤ one_if (not test)) inside in
+        let many = back.turns in
+        omega (arith, ints)
     ]
 
 -- A row that is written by its factors, with the counts of a run.

@@ -1,22 +1,26 @@
 -- What comes to a place of a scope, or into a loop right inside it, is at most what comes to the scope's header; in
 -- the run, at most what begins it.
-use Rattle.std.proofs.Common.{◌≡◌, ℕ, zero, suc, ◌≤◌, ◌<◌, Bool, true, false, length, Option, Some, refl, sym, ap, ◌∙◌, subst, inl, inr, ◌⊎◌, arith}
-use Rattle.std.specs.Prelude.{◌==◌}
+use Rattle.std.proofs.Common.{◌≡◌, ℕ, zero, suc, ◌+◌, ◌≤◌, ◌<◌, Bool, true, false, List, length, Option, Some, None, refl, sym, ap, ◌∙◌, subst, inl, inr, ◌⊎◌, arith}
+use Rattle.std.specs.Prelude.{◌==◌, ◌&&◌, not}
 use Rattle.std.proofs.lemmas.Bool.{cases_eq}
 use Rattle.std.proofs.lemmas.Bool.Decides.{nat_tests}
 use Rattle.std.proofs.lemmas.Int.{ints}
 use Rattle.std.proofs.lemmas.Option.{none-some}
-use lib.IntN.{ℤ, pos, ◌+ℤ◌}
+use lib.IntN.{ℤ, pos, ◌+ℤ◌, ◌*ℤ◌}
 use lib.Signed.{◌≤ℤ◌}
 use Rattle.flow_net.specs.Nested.{IsBack, IsNested}
 use Rattle.flow_net.specs.Numbers.{item_at}
-use Rattle.flow_net.specs.Scopes.{Holds}
+use Rattle.flow_net.specs.Scopes.{ChainsEnd, Holds, IsWithin}
+use Rattle.flow_net.specs.Scopes.IsWithin.{here, out}
 use Rattle.flow_net.specs.declared.net.LoopInst.{LoopInst}
 use Rattle.flow_net.specs.declared.net.Net.{Net}
 use Rattle.flow_net.specs.declared.net.NetArc.{NetArc}
-use Rattle.flow_net.proofs.Holds.{holds-decided, holds-zero}
+use Rattle.flow_net.specs.declared.net.Place.{Place}
+use Rattle.flow_net.proofs.Headers.{header-scope}
+use Rattle.flow_net.proofs.Holds.{holds-decided, holds-place, holds-zero}
 use Rattle.flow_net.proofs.Numbers.{item_at-same}
-use Rattle.ipet_program.specs.Rows.{comes_to, goes_from, one_if}
+use Rattle.flow_net.proofs.Within.{within-cases}
+use Rattle.ipet_program.specs.Rows.{comes_to, goes_from, is_entering, one_if}
 use Rattle.ipet_program.proofs.FlowSums.{cut, flow, into, MeetsFlow, out_of}
 use Rattle.ipet_program.proofs.Low.{InLow, IsLow, low-arc, low-back, low-decided}
 
@@ -86,6 +90,7 @@ forward-low net nested scope place j arc there held same forward from =
 -- ---- In a loop instance.
 module _ (net : Net) (nested : IsNested net) (holds : ℕ → ℕ → Bool) (counts : ℕ → ℕ)
     (meets : MeetsFlow net holds counts) (scope : ℕ) (inst : LoopInst) (at : item_at scope net.loops ≡ Some inst) where
+
   to-header : (limit j : ℕ) (arc : NetArc) → item_at j net.arcs ≡ Some arc →
       IsLow net nested.ranks.rank scope limit arc.to →
       (IsLow net nested.ranks.rank scope limit arc.from → ⊥) → arc.to ≡ inst.header
@@ -93,15 +98,15 @@ module _ (net : Net) (nested : IsNested net) (holds : ℕ → ℕ → Bool) (cou
       elim (holds-decided net scope arc.from nested.scopes.chains) as (λ _. arc.to ≡ inst.header) [
         | inr outside ↦ nested.entering j scope arc inst there at low.held outside
         | inl inside ↦ elim (cases_eq arc.to inst.header) as (λ _. arc.to ≡ inst.header) [
-          | inl same ↦ same
-          | inr differ ↦ absurd (low-arc net nested scope limit j arc there (positive net scope arc.from inside)
-              (positive net scope arc.to low.held) inside low free
-              (λ back.
-              let own = low-back net nested scope limit arc back inside low free in
-              let one : back.inst ≡ inst = item_at-same net.loops scope back.inst inst
-              (subst (λ (n : ℕ). item_at n net.loops ≡ Some back.inst) own back.there) at in
-              differ (back.header ∙ ap (λ (i : LoopInst). i.header) one)))
-        ]
+            | inl same ↦ same
+            | inr differ ↦ absurd (low-arc net nested scope limit j arc there (positive net scope arc.from inside)
+                (positive net scope arc.to low.held) inside low free
+                (λ back.
+                let own = low-back net nested scope limit arc back inside low free in
+                let one : back.inst ≡ inst = item_at-same net.loops scope back.inst inst
+                (subst (λ (n : ℕ). item_at n net.loops ≡ Some back.inst) own back.there) at in
+                differ (back.header ∙ ap (λ (i : LoopInst). i.header) one)))
+          ]
       ]
 
   into-one : (j : ℕ) (arc : NetArc) → item_at j net.arcs ≡ Some arc → arc.to ≡ inst.header →
@@ -142,6 +147,7 @@ module _ (net : Net) (nested : IsNested net) (holds : ℕ → ℕ → Bool) (cou
 -- ---- In the run.
 module _ (net : Net) (nested : IsNested net) (holds : ℕ → ℕ → Bool) (counts : ℕ → ℕ)
     (meets : MeetsFlow net holds counts) where
+
   from-zero : (limit j : ℕ) (arc : NetArc) → item_at j net.arcs ≡ Some arc → (held : (place : ℕ) → 0 < place →
       place ≤ length net.places → Holds net 0 place) → arc.from ≤ length net.places →
       IsLow net nested.ranks.rank 0 limit arc.to →
@@ -150,12 +156,12 @@ module _ (net : Net) (nested : IsNested net) (holds : ℕ → ℕ → Bool) (cou
       elim (cases_eq arc.from 0) as (λ _. arc.from ≡ 0) [
         | inl same ↦ same
         | inr differ ↦
-            let inside = held arc.from (omega (arith, differ)) within in
-            absurd (low-arc net nested 0 limit j arc there (omega (arith, differ)) (positive net 0 arc.to low.held) inside
-            low free
-            (λ back.
-            let own = low-back net nested 0 limit arc back inside low free in
-            none-some back.inst (subst (λ (n : ℕ). item_at n net.loops ≡ Some back.inst) own back.there)))
+          let inside = held arc.from (omega (arith, differ)) within in
+          absurd (low-arc net nested 0 limit j arc there (omega (arith, differ)) (positive net 0 arc.to low.held) inside
+          low free
+          (λ back.
+          let own = low-back net nested 0 limit arc back inside low free in
+          none-some back.inst (subst (λ (n : ℕ). item_at n net.loops ≡ Some back.inst) own back.there)))
       ]
 
   out-one : (j : ℕ) (arc : NetArc) → item_at j net.arcs ≡ Some arc → arc.from ≡ 0 → out_of net 0 j ≡ pos 1

@@ -4,13 +4,13 @@ use Rattle.std.specs.Prelude.{FitsSigned}
 use Rattle.std.specs.Bool.{OnFalse, OnTrue}
 use Rattle.std.specs.Int.{w128}
 use Rattle.std.proofs.lemmas.Int.{ints}
-use lib.IntN.{ℤ, pos, ◌*ℤ◌}
+use lib.IntN.{ℤ, pos, negsuc, ◌+ℤ◌, ◌*ℤ◌}
 use lib.Signed.{◌≤ℤ◌}
 use Rattle.flow_net.specs.Numbers.{item_at}
 use Rattle.ipet_program.specs.Adding.{AreTaken, MayTakeAll, sum_in}
-use Rattle.ipet_program.specs.Leaves.{all_rows, column_parts, FitFrom, FitsBound, IsLeaf, Shows, total, value_at, value_or_zero}
+use Rattle.ipet_program.specs.Leaves.{all_rows, column_parts, FitFrom, FitsBound, IsLeaf, right_parts, Shows, total, value_at, value_or_zero}
 use Rattle.ipet_program.specs.Programs.{IsCheckable}
-use Rattle.ipet_program.specs.Shown.{AreCovered, IsCovered, ShowBound, ShowNone}
+use Rattle.ipet_program.specs.Shown.{AreCovered, IsBelow, IsCovered, NoneNegative, ShowBound, ShowNone}
 use Rattle.ipet_program.specs.declared.leaf.Leaf.{Leaf}
 use Rattle.ipet_program.specs.declared.leaf.Side2.{Side2}
 use Rattle.ipet_program.specs.declared.program.Program.{Program}
@@ -45,6 +45,7 @@ fits-none program old zeros long column low high = zeros (column - 1) (omega ari
 
 module _ (program : Program) (cuts : List Side2) (bound : ℕ) (leaf : Leaf) (old : List ℤ) (zeros : AreZero old)
     (long : program.columns ≤ length old) (checkable : IsCheckable program) where
+
   -- The rows of a valid leaf may be taken.
   pub may-of_leaf : IsLeaf program cuts bound leaf → MayTakeAll program cuts old (pos 0) leaf.weights
   may-of_leaf valid =
@@ -58,6 +59,7 @@ module _ (program : Program) (cuts : List Side2) (bound : ℕ) (leaf : Leaf) (ol
       }
 
   module _ (sums : List ℤ) (side : ℤ) (taken : AreTaken program cuts old sums (pos 0) leaf.weights side) where
+
     leaf_by : (empty : Bool) → leaf.empty ≡ empty → pos 1 ≤ℤ leaf.denom →
         Shows empty program (all_rows program cuts) bound leaf → FitsBound empty program bound leaf →
         IsLeaf program cuts bound leaf

@@ -1,6 +1,7 @@
 -- Adding parts to the columns' sums, one list of parts behind another.
-use Rattle.std.proofs.Common.{◌≡◌, ℕ, ◌+◌, ◌-◌, ◌≤◌, ◌<◌, Bool, true, false, cond, List, [], ◌∷◌, ◌++◌, length, take, drop, get_or, map, Some, refl, sym, ap, ◌∙◌, subst, inl, inr, arith}
-use Rattle.std.specs.Prelude.{◌==◌, filter, slice_set}
+use Rattle.std.proofs.Common.{◌≡◌, ◌≢◌, ℕ, zero, suc, ◌+◌, ◌-◌, ◌≤◌, ◌<◌, Bool, true, false, cond, List, [], ◌∷◌, ◌++◌, length, take, drop, get_or, map, Some, refl, sym, ap, ◌∙◌, subst, inl, inr, ◌⊎◌, arith}
+use Rattle.std.specs.Prelude.{◌==◌, filter, FitsSigned, slice_set}
+use Rattle.std.specs.Int.{w128}
 use Rattle.std.proofs.lemmas.Bool.{cases_eq}
 use Rattle.std.proofs.lemmas.Bool.Decides.{nat_tests}
 use Rattle.std.proofs.lemmas.Int.{ints}
@@ -8,7 +9,7 @@ use Rattle.std.proofs.lemmas.List.{get_or-set_other, get_or-set_same, map-append
 use Rattle.std.proofs.lemmas.List.Elements.{filter-append}
 use lib.IntN.{ℤ, pos, ◌+ℤ◌, ◌*ℤ◌, +ℤ_assoc, +ℤ_idr}
 use lib.Signed.{◌≤ℤ◌}
-use Rattle.ipet_program.specs.Adding.{AreAdded, Fit, HaveRoom, IsTaken, sum_in, terms_parts}
+use Rattle.ipet_program.specs.Adding.{AreAdded, Fit, HaveRoom, IsTaken, MayTake, sum_in, terms_parts}
 use Rattle.ipet_program.specs.Leaves.{cut_row, cut_row_by, FitFrom, IsSigned, total}
 use Rattle.ipet_program.specs.declared.leaf.Side2.{Side2}
 use Rattle.ipet_program.specs.declared.program.Row.{Row}
@@ -116,17 +117,17 @@ term-sum sums times term value less from is column low =
       | inl same ↦ subst (λ (c : ℕ). sum_in (slice_set sums (term.column - 1) value) c
           ≡ sum_in sums c +ℤ total (terms_parts c times (term ∷ []))) (sym same)
           (
-          let read = get_or-set_same sums (term.column - 1) value (pos 0) less in
-          let parts : total (terms_parts term.column times (term ∷ [])) ≡ times *ℤ term.factor +ℤ pos 0 =
-          ap total (own-parts times term) in
-          omega (arith, ints)
+            let read = get_or-set_same sums (term.column - 1) value (pos 0) less in
+            let parts : total (terms_parts term.column times (term ∷ [])) ≡ times *ℤ term.factor +ℤ pos 0 =
+            ap total (own-parts times term) in
+            omega (arith, ints)
           )
       | inr differ ↦
-          let read = get_or-set_other sums (term.column - 1) (column - 1) value (pos 0)
-          (λ e. differ (omega (arith, e))) in
-          let parts : total (terms_parts column times (term ∷ [])) ≡ pos 0 =
-          ap total (other-parts times term column differ) in
-          omega (arith, ints)
+        let read = get_or-set_other sums (term.column - 1) (column - 1) value (pos 0)
+        (λ e. differ (omega (arith, e))) in
+        let parts : total (terms_parts column times (term ∷ [])) ≡ pos 0 =
+        ap total (other-parts times term column differ) in
+        omega (arith, ints)
     ]
 
 pub term-added : (columns : ℕ) (sums : List ℤ) (times : ℤ) (term : Term) (value : ℤ) → columns ≤ length sums →

@@ -1,10 +1,11 @@
 -- Sums of whole numbers over the columns 1 to n.
-use Rattle.std.proofs.Common.{◌≡◌, ℕ, zero, suc, ◌≤◌, refl, ap, inl, inr, arith}
+use Rattle.std.proofs.Common.{◌≡◌, ℕ, zero, suc, ◌+◌, ◌*◌, ◌≤◌, ◌<◌, ◌==◌, Bool, true, false, cond, List, [], ◌∷◌, ◌++◌, length, refl, sym, ap, ◌∙◌, subst, inl, inr, ◌⊎◌, arith}
 use Rattle.std.proofs.lemmas.Bool.{cases_eq}
+use Rattle.std.proofs.lemmas.Bool.Decides.{nat_tests}
 use Rattle.std.proofs.lemmas.Int.{ints}
-use lib.IntN.{ℤ, pos, ◌+ℤ◌, ◌*ℤ◌}
+use lib.IntN.{ℤ, pos, negsuc, ◌+ℤ◌, ◌-ℤ◌, ◌*ℤ◌, +ℤ_idr}
 use lib.Signed.{◌≤ℤ◌}
-use Rattle.ipet_program.proofs.Whole.{mul-sum}
+use Rattle.ipet_program.proofs.Whole.{mul-sum, sum-mul}
 
 -- The sum of what a function gives for 1, 2 and so on.
 abbrev pub total_to : ℕ → (ℕ → ℤ) → ℤ
@@ -56,11 +57,11 @@ total_to-one f zero column low high h = absurd (omega arith)
 total_to-one f (suc n) column low high h =
     elim (cases_eq (suc n) column) as (λ _. total_to (suc n) f ≡ f column) [
       | inl e ↦
-          let rest = total_to-none f n (λ j from to. h j (λ same. omega (arith, e, same))) in
-          let last : f (suc n) ≡ f column = ap f e in
-          omega (arith, ints)
+        let rest = total_to-none f n (λ j from to. h j (λ same. omega (arith, e, same))) in
+        let last : f (suc n) ≡ f column = ap f e in
+        omega (arith, ints)
       | inr differ ↦
-          let rest = total_to-one f n column low (omega (arith, differ)) h in
-          let last = h (suc n) differ in
-          omega (arith, ints)
+        let rest = total_to-one f n column low (omega (arith, differ)) h in
+        let last = h (suc n) differ in
+        omega (arith, ints)
     ]

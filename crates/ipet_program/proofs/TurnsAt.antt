@@ -1,5 +1,5 @@
 -- Products of the bounds of the loops round a place.
-use Rattle.std.proofs.Common.{◌≡◌, ℕ, zero, suc, ◌*◌, ◌≤◌, Bool, true, false, Option, Some, None, refl, sym, ap, ◌∙◌, inl, inr, arith}
+use Rattle.std.proofs.Common.{◌≡◌, ℕ, zero, suc, ◌+◌, ◌*◌, ◌≤◌, ◌<◌, Bool, true, false, length, All, Option, Some, None, refl, sym, ap, ◌∙◌, subst, inl, inr, ◌⊎◌, arith}
 use Rattle.std.specs.Prelude.{if◌then◌else◌}
 use Rattle.std.proofs.Math.Nat.{mul-le-mul_left}
 use Rattle.std.proofs.lemmas.Bool.{cases_eq}
@@ -8,7 +8,7 @@ use Rattle.flow_net.specs.Numbers.{item_at}
 use Rattle.flow_net.specs.declared.net.LoopInst.{LoopInst}
 use Rattle.flow_net.specs.declared.net.Net.{Net}
 use Rattle.flow_net.proofs.Numbers.{item_at-all}
-use Rattle.ipet_program.specs.Scopes.{bound_of}
+use Rattle.ipet_program.specs.Scopes.{bound_of, turns_at}
 use Rattle.ipet_program.specs.Sums.{product_to}
 
 pub mul-le : (a b c d : ℕ) → a ≤ b → c ≤ d → a * c ≤ b * d
@@ -34,19 +34,19 @@ product-step zero f g at b low high h is one = absurd (omega arith)
 product-step (suc n) f g at b low high h is one =
     elim (cases_eq at (suc n)) as (λ _. b * product_to (suc n) g ≤ product_to (suc n) f) [
       | inl same ↦
-          let rest = product-order n g f (λ k from to. h k (λ e. omega (arith, to, e, same))) in
-          let last : g (suc n) ≡ 1 = ap g (sym same) ∙ one in
-          let first : f (suc n) ≡ b = ap f (sym same) ∙ is in
-          let order : b * product_to n g ≤ b * product_to n f = mul-le-mul_left b rest in
-          let left : product_to n g * g (suc n) ≡ product_to n g * 1 = ap (λ (m : ℕ). product_to n g * m) last in
-          let right : product_to n f * f (suc n) ≡ product_to n f * b = ap (λ (m : ℕ). product_to n f * m) first in
-          let whole : b * (product_to n g * g (suc n)) ≡ b * (product_to n g * 1) = ap (λ (m : ℕ). b * m) left in
-          omega (arith, order, right, whole)
+        let rest = product-order n g f (λ k from to. h k (λ e. omega (arith, to, e, same))) in
+        let last : g (suc n) ≡ 1 = ap g (sym same) ∙ one in
+        let first : f (suc n) ≡ b = ap f (sym same) ∙ is in
+        let order : b * product_to n g ≤ b * product_to n f = mul-le-mul_left b rest in
+        let left : product_to n g * g (suc n) ≡ product_to n g * 1 = ap (λ (m : ℕ). product_to n g * m) last in
+        let right : product_to n f * f (suc n) ≡ product_to n f * b = ap (λ (m : ℕ). product_to n f * m) first in
+        let whole : b * (product_to n g * g (suc n)) ≡ b * (product_to n g * 1) = ap (λ (m : ℕ). b * m) left in
+        omega (arith, order, right, whole)
       | inr differ ↦
-          let rest = product-step n f g at b low (omega (arith, differ)) h is one in
-          let last = h (suc n) (λ e. differ (sym e)) in
-          let both = mul-le (b * product_to n g) (product_to n f) (g (suc n)) (f (suc n)) rest last in
-          omega (arith, both)
+        let rest = product-step n f g at b low (omega (arith, differ)) h is one in
+        let last = h (suc n) (λ e. differ (sym e)) in
+        let both = mul-le (b * product_to n g) (product_to n f) (g (suc n)) (f (suc n)) rest last in
+        omega (arith, both)
     ]
 
 -- The factor of a scope at a place.

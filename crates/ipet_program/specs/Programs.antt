@@ -23,15 +23,12 @@ abbrev pub arc_value : (ℕ → ℕ) → Option NetArc → ℤ
 arc_value price None = pos 0
 arc_value price (Some arc) = pos (price arc.to)
 
--- An arc is taken at most as often as the loops round its source let that be visited; arc 1 comes once. So many
--- times at most each arc is taken in feasible counts of a nested net's program (`feasible-capped` of
--- proofs/Caps.antt; `columns-capped` there for counts that begin the run any number of times).
+-- An arc is taken at most as often as the loops round its source let that be visited; arc 1 comes once.
 abbrev pub arc_cap : Net → (ℕ → ℕ → Bool) → Option NetArc → ℕ
 arc_cap net holds None = 1
 arc_cap net holds (Some arc) = if arc.from == 0 then 1 else turns_at net holds arc.from
 
--- The crude bound: each place's price, as often as the loops round it let it be visited. The value of feasible
--- counts of a nested net's program is at most that (`feasible-crude` of proofs/Caps.antt).
+-- The crude bound: each place's price, as often as the loops round it let it be visited.
 abbrev pub crude_of : Net → (ℕ → ℕ → Bool) → (ℕ → ℕ) → ℕ
 crude_of net holds price = sum_to (length net.places) (λ place. price place * turns_at net holds place)
 

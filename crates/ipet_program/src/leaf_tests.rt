@@ -9,28 +9,13 @@ use std::test::Fail;
 use wcet_io::List;
 
 /// A row of two terms, in columns 1 and 2.
-fn row_of(
-    alloc: Global,
-    equal: bool,
-    first: i64,
-    second: i64,
-    right: i64,
-) -> Result<Row, AllocError>
+fn row_of(alloc: Global, equal: bool, first: i64, second: i64, right: i64) -> Result<Row, AllocError>
     requires first { unsigned_abs first ≤ 8 }
     requires second { unsigned_abs second ≤ 8 }
     requires right { unsigned_abs right ≤ 8 }
     ensures { IfOk result (IsSmallRow 2) }
 {
-    let terms = vec![in alloc;
-        Term {
-            column: 1,
-            factor: first
-        },
-        Term {
-            column: 2,
-            factor: second
-        },
-    ]?;
+    let terms = vec![in alloc; Term { column: 1, factor: first }, Term { column: 2, factor: second }]?;
     Ok(Row {
         equal,
         terms: List::from_vec(terms),
@@ -90,13 +75,6 @@ fn times(row: u64, times: i128) -> Weight
     ensures times { result.times ≡ times }
 {
     Weight { row, times }
-}
-
-/// How often a column is taken.
-fn count(column: u32, number: u64) -> Count
-    ensures { result.column ≡ column }
-{
-    Count { column, number }
 }
 
 /// The cut of column 1 at a number.
@@ -172,12 +150,12 @@ fn leaves_show_that_there_are_no_counts(rt: HostRuntime) -> Result<(), Fail> {
 fn counts_have_a_value(rt: HostRuntime) -> Result<(), Fail> {
     let alloc = rt.alloc();
     let program = program(alloc)?;
-    let once = [count(1, 1), count(2, 1)];
+    let once = [Count { column: 1, number: 1 }, Count { column: 2, number: 1 }];
     assert!(rt; are_counts(&program, &once, 5));
     assert!(rt; !are_counts(&program, &once, 4));
-    // A place that is left less often than come to, a run that doesn't begin, and a column that isn't there.
-    assert!(rt; !are_counts(&program, &[count(1, 1)], 5));
+    // A row with = is broken, then one with <= too, then a column isn't there.
+    assert!(rt; !are_counts(&program, &[Count { column: 1, number: 1 }], 5));
     assert!(rt; !are_counts(&program, &[], 0));
-    assert!(rt; !are_counts(&program, &[count(1, 1), count(2, 1), count(3, 1)], 5));
+    assert!(rt; !are_counts(&program, &[Count { column: 3, number: 1 }], 0));
     Ok(())
 }

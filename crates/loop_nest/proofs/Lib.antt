@@ -4,6 +4,14 @@ pub mod Laminar
 pub mod ForwardWays
 pub mod HeaderRank
 pub mod Innermost
+-- Laws of the net of a function.
+pub mod NetItems
+pub mod NetScopes
+pub mod NetPaths
+pub mod NestedNet
+pub mod NestLaws
+pub mod NetOnce
+pub mod Ordered
 pub mod Arcs
 -- The functions' own lemmas.
 mod Bounding
@@ -15,14 +23,14 @@ mod Collecting
 mod Irreducibles
 mod Meeting
 mod Nesting
-mod Places
+pub mod Places
 mod Planning
-mod Positions
+pub mod Positions
 mod Ranking
 mod Regular
 mod Removing
 mod Returning
 mod Reversing
 mod Ringing
-mod Seen
+pub mod Seen
 mod Walking

@@ -11,21 +11,19 @@ use Rattle.elf_mips.specs.Faults.{IsFirstFault as IsFirstElfFault}
 use Rattle.elf_mips.specs.Image.{IsImage}
 use Rattle.net_model.specs.declared.unit.CodeKind.{CodeKind}
 use Rattle.net_model.specs.declared.unit.CodeKind.TheVariants as code
-use Rattle.net_model.specs.Faults.{IsFirstFault as IsFirstCodeFault}
-use Rattle.net_model.specs.Faults.{HasNoFault as HasNoCodeFault}
 use Rattle.net_model.specs.Faults.{rank as code_rank}
 use Rattle.mips_decode.specs.State.{Region}
 use Rattle.mips_machine.specs.Image.{region_of}
 use Rattle.wcet_engine.specs.declared.refusal.Refusal.{Refusal}
 use Rattle.wcet_engine.specs.declared.refusal.RefusalKind.{RefusalKind}
-use Rattle.wcet_engine.specs.declared.refusal.RefusalKind.TheVariants.{TooLong, Short, NotElf, NotThisKind, BadTable, BadSegment, BadSection, BadRecord, RegionClash, Unbuilt, WritableCode, UnknownWord, TransferInSlot, UnknownTarget, LinkRegister, Recursion, Irreducible, NoBound, NeverReturns}
+use Rattle.wcet_engine.specs.declared.refusal.RefusalKind.TheVariants.{TooLong, Short, NotElf, NotThisKind, BadTable, BadSegment, BadSection, BadRecord, RegionClash, Unbuilt, WritableCode, UnknownWord, TransferInSlot, UnknownTarget, LinkRegister, Recursion, Irreducible, NoBound, NeverReturns, BoundTooLarge}
 use Rattle.wcet_engine.specs.Clash.{IsClash, IsLeast, IsSharedBy, given_regions}
 use Rattle.wcet_engine.specs.Code.{IsCodeRefusal}
 use Rattle.wcet_engine.specs.Refusals.{kind_of, kind_of_code, rank}
 use Rattle.wcet_engine.specs.Sentence.{IsPlain}
 use Rattle.wcet_engine.specs.Unbuilt.{IsUnbuiltAt}
-use Rattle.wcet_engine.specs.Faults.{HasNoFault, HasNoReturn, IsCodeFault, IsFirstFault, IsPlainClash, OfImage, Offends, TellsFault, file_limit, refused_of}
-use Rattle.wcet_engine.proofs.SameImage.{clash-same, fault-same, no_return-same, same-image, unbuilt-same}
+use Rattle.wcet_engine.specs.Faults.{HasNoFault, HasNoReturn, IsCodeFault, IsFirstFault, IsPlainClash, IsPlainTooLarge, OfImage, Offends, TellsFault, file_limit, refused_of}
+use Rattle.wcet_engine.proofs.SameImage.{clash-same, fault-same, large-same, no_return-same, same-image, unbuilt-same}
 
 -- An empty list contains nothing.
 nothing : (places : List ℕ) (place : ℕ) → places ≡ [] → Contains places place → ⊥
@@ -47,6 +45,7 @@ pub record IsFreeBelow (file : List ℕ) (image : Image) (limit : ℕ) : Type 0 
   pub built : 9 < limit → (place : ℕ) → IsUnbuiltAt image image.entry place → ⊥
   pub faultless : (kind : CodeKind) → rank (kind_of_code kind) < limit → (place : ℕ) → IsCodeFault kind image place → ⊥
   pub returning : 18 < limit → HasNoReturn image → ⊥
+  pub fitting : 19 < limit → IsPlainTooLarge image → ⊥
 
 no-fault : (file : List ℕ) (image : Image) (limit : ℕ) (kind : CodeKind) (place : ℕ) → IsFreeBelow file image limit →
     rank (kind_of_code kind) < limit → OfImage file (λ other. IsCodeFault kind other place) → ⊥
@@ -85,8 +84,11 @@ none-below file image limit free NoBound place earlier offends = no-fault file i
 none-below file image limit free NeverReturns place earlier offends =
     free.returning earlier
     (no_return-same offends.image image (same-image file offends.image image offends.read free.read) offends.says.1)
+none-below file image limit free BoundTooLarge place earlier offends =
+    free.fitting earlier
+    (large-same offends.image image (same-image file offends.image image offends.read free.read) offends.says.1)
 
-rank-low : (kind : RefusalKind) → rank kind < 19
+rank-low : (kind : RefusalKind) → rank kind < 20
 rank-low TooLong = omega arith
 rank-low Short = omega arith
 rank-low NotElf = omega arith
@@ -106,9 +108,10 @@ rank-low Recursion = omega arith
 rank-low Irreducible = omega arith
 rank-low NoBound = omega arith
 rank-low NeverReturns = omega arith
+rank-low BoundTooLarge = omega arith
 
-pub HasNoFault-free : (file : List ℕ) (image : Image) → IsFreeBelow file image 19 → HasNoFault file
-HasNoFault-free file image free kind place offends = none-below file image 19 free kind place (rank-low kind) offends
+pub HasNoFault-free : (file : List ℕ) (image : Image) → IsFreeBelow file image 20 → HasNoFault file
+HasNoFault-free file image free kind place offends = none-below file image 20 free kind place (rank-low kind) offends
 
 -- The kinds of the code's faults stand behind the units that aren't built, in their own order.
 rank-code : (kind : CodeKind) → (rank (kind_of_code kind) ≡ code_rank kind + 10) × (code_rank kind < 8)
@@ -131,6 +134,7 @@ free-read file image fits clean read = record {
   built = λ later. absurd (omega (arith, later));
   faultless = λ kind earlier. absurd (let high = rank-code kind in omega (arith, earlier, high));
   returning = λ later. absurd (omega (arith, later));
+  fitting = λ later. absurd (omega (arith, later));
 }
 
 pub free-apart : (file : List ℕ) (image : Image) → IsFreeBelow file image 8 → ((place : ℕ) → IsPlainClash image place → ⊥) →
@@ -143,6 +147,7 @@ free-apart file image free apart = record {
   built = λ later. absurd (omega (arith, later));
   faultless = λ kind earlier. absurd (let high = rank-code kind in omega (arith, earlier, high));
   returning = λ later. absurd (omega (arith, later));
+  fitting = λ later. absurd (omega (arith, later));
 }
 
 pub free-built : (file : List ℕ) (image : Image) → IsFreeBelow file image 9 →
@@ -155,9 +160,11 @@ free-built file image free built = record {
   built = λ later. built;
   faultless = λ kind earlier. absurd (let high = rank-code kind in omega (arith, earlier, high));
   returning = λ later. absurd (omega (arith, later));
+  fitting = λ later. absurd (omega (arith, later));
 }
 
-pub free-code : (file : List ℕ) (image : Image) → IsFreeBelow file image 10 → HasNoCodeFault image image.entry → IsFreeBelow file image 18
+pub free-code : (file : List ℕ) (image : Image) → IsFreeBelow file image 10 →
+    ((kind : CodeKind) (place : ℕ) → IsCodeFault kind image place → ⊥) → IsFreeBelow file image 18
 free-code file image free faultless = record {
   fits = free.fits;
   clean = free.clean;
@@ -166,10 +173,11 @@ free-code file image free faultless = record {
   built = λ later. free.built (omega arith);
   faultless = λ kind earlier place offends. faultless kind place offends;
   returning = λ later. absurd (omega (arith, later));
+  fitting = λ later. absurd (omega (arith, later));
 }
 
-pub free-whole : (file : List ℕ) (image : Image) → IsFreeBelow file image 18 → (HasNoReturn image → ⊥) → IsFreeBelow file image 19
-free-whole file image free returning = record {
+pub free-returning : (file : List ℕ) (image : Image) → IsFreeBelow file image 18 → (HasNoReturn image → ⊥) → IsFreeBelow file image 19
+free-returning file image free returning = record {
   fits = free.fits;
   clean = free.clean;
   read = free.read;
@@ -177,6 +185,19 @@ free-whole file image free returning = record {
   built = λ later. free.built (omega arith);
   faultless = λ kind earlier place offends. free.faultless kind (let high = rank-code kind in omega (arith, high)) place offends;
   returning = λ later. returning;
+  fitting = λ later. absurd (omega (arith, later));
+}
+
+pub free-whole : (file : List ℕ) (image : Image) → IsFreeBelow file image 19 → (IsPlainTooLarge image → ⊥) → IsFreeBelow file image 20
+free-whole file image free fitting = record {
+  fits = free.fits;
+  clean = free.clean;
+  read = free.read;
+  apart = λ later. free.apart (omega arith);
+  built = λ later. free.built (omega arith);
+  faultless = λ kind earlier place offends. free.faultless kind (let high = rank-code kind in omega (arith, high)) place offends;
+  returning = λ later. free.returning (omega arith);
+  fitting = λ later. fitting;
 }
 
 -- Plain profiles give the same memory.
@@ -245,9 +266,10 @@ of-code file image code.Recursion place offends = offends
 of-code file image code.Irreducible place offends = offends
 of-code file image code.NoBound place offends = offends
 
-free-before : (file : List ℕ) (image : Image) (kind : CodeKind) (place : ℕ) → IsFreeBelow file image 10 →
-    IsFirstCodeFault image image.entry kind place → IsFreeBelow file image (rank (kind_of_code kind))
-free-before file image kind place free first = record {
+free-before : (file : List ℕ) (image : Image) (kind : CodeKind) → IsFreeBelow file image 10 →
+    ((other : CodeKind) (spot : ℕ) → code_rank other < code_rank kind → IsCodeFault other image spot → ⊥) →
+    IsFreeBelow file image (rank (kind_of_code kind))
+free-before file image kind free first = record {
   fits = free.fits;
   clean = free.clean;
   read = free.read;
@@ -256,8 +278,9 @@ free-before file image kind place free first = record {
   faultless = λ other earlier spot offends.
       let one = rank-code kind in
       let two = rank-code other in
-      first.first other spot (omega (arith, earlier, one, two)) offends;
+      first other spot (omega (arith, earlier, one, two)) offends;
   returning = λ later. absurd (let high = rank-code kind in omega (arith, later, high));
+  fitting = λ later. absurd (let high = rank-code kind in omega (arith, later, high));
 }
 
 pub IsFirstFault-code : (file : List ℕ) (image : Image) (refusal : Refusal) → IsFreeBelow file image 10 →
@@ -265,11 +288,11 @@ pub IsFirstFault-code : (file : List ℕ) (image : Image) (refusal : Refusal) �
 IsFirstFault-code file image refusal free told =
     let kind = told.fault in
     of-kind file refusal (kind_of_code kind) told.same (record {
-      offends = code-offends file image kind refusal.place (record { image = image; read = free.read; says = told.first.offends });
-      first = none-below file image (rank (kind_of_code kind)) (free-before file image kind refusal.place free told.first);
+      offends = code-offends file image kind refusal.place (record { image = image; read = free.read; says = told.offends });
+      first = none-below file image (rank (kind_of_code kind)) (free-before file image kind free told.first);
       least = λ lesser less offends.
           let here = of-code file image kind lesser offends in
-          told.first.least lesser less
+          told.least lesser less
           (fault-same here.image image kind lesser (same-image file here.image image here.read free.read) here.says);
     })
 
@@ -279,6 +302,17 @@ pub IsFirstFault-never : (file : List ℕ) (image : Image) (refusal : Refusal) �
 IsFirstFault-never file image refusal free same here none = of-kind file refusal NeverReturns same (record {
   offends = record { image = image; read = free.read; says = (here, none) };
   first = none-below file image 18 free;
+  least = λ lesser less offends.
+      let entry = (same-image file offends.image image offends.read free.read).entry in
+      absurd (omega (arith, less, here, offends.says.0, entry));
+})
+
+-- The crude bound is too large.
+pub IsFirstFault-large : (file : List ℕ) (image : Image) (refusal : Refusal) → IsFreeBelow file image 19 → refusal.kind ≡ BoundTooLarge →
+    refusal.place ≡ image.entry → IsPlainTooLarge image → IsFirstFault file refusal
+IsFirstFault-large file image refusal free same here large = of-kind file refusal BoundTooLarge same (record {
+  offends = record { image = image; read = free.read; says = (here, large) };
+  first = none-below file image 19 free;
   least = λ lesser less offends.
       let entry = (same-image file offends.image image offends.read free.read).entry in
       absurd (omega (arith, less, here, offends.says.0, entry));
@@ -346,6 +380,7 @@ earlier-kinds file n fits clean low Recursion place earlier offends = absurd (om
 earlier-kinds file n fits clean low Irreducible place earlier offends = absurd (omega arith)
 earlier-kinds file n fits clean low NoBound place earlier offends = absurd (omega arith)
 earlier-kinds file n fits clean low NeverReturns place earlier offends = absurd (omega arith)
+earlier-kinds file n fits clean low BoundTooLarge place earlier offends = absurd (omega arith)
 
 -- What the reader tells of a fault is the file's first fault.
 tells-bad : (file : List ℕ) (kind : ElfKind) (place : ℕ) → length file ≤ file_limit → IsFirstElfFault file kind place →

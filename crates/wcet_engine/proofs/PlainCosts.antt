@@ -17,7 +17,7 @@ use Rattle.cache_config.specs.Instructions.{costs_of, cycles_of}
 use Rattle.net_model.specs.declared.unit.Content.{Content}
 use Rattle.net_model.specs.declared.unit.Content.TheVariants.{Unit as Stands, Fault}
 use Rattle.net_model.specs.Units.{content_at}
-use Rattle.wcet_engine.specs.Costliest.{place_price, price_at}
+use Rattle.ipet_program.specs.Programs.{place_price, price_at}
 use Rattle.ipet_program.specs.Costs.{content_cost, instr_cost, slot_cost, touch_cost}
 use Rattle.wcet_engine.specs.Sentence.{IsPlain}
 
@@ -73,10 +73,10 @@ content-plain profile other (Stands unit) one two =
 content-plain profile other (Fault kind place) one two = refl
 
 at-plain : (image : Image) (profile other : Profile) (place : Option Place) → IsPlain profile → IsPlain other →
-    price_at (costs_of profile) image place ≡ price_at (costs_of other) image place
+    price_at profile image place ≡ price_at other image place
 at-plain image profile other None one two = refl
 at-plain image profile other (Some place) one two = content-plain profile other (content_at image place.address) one two
 
 pub same-price : (image : Image) (profile other : Profile) (net : Net) → IsPlain profile → IsPlain other →
-    place_price (costs_of profile) image net ≡ place_price (costs_of other) image net
+    place_price profile image net ≡ place_price other image net
 same-price image profile other net one two = fun_ext (λ number. at-plain image profile other (item_at number net.places) one two)

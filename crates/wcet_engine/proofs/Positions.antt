@@ -11,7 +11,7 @@ use Rattle.wcet_engine.specs.Rows.{AreStepsTo, IsAmong, addresses_of}
 use Rattle.wcet_engine.specs.Table.{IsAt}
 
 -- Later positions have greater addresses.
-greater : (reached : List Reached) (p q : ℕ) (x y : Reached) → Rise reached → slice_get reached p ≡ Some x →
+pub greater : (reached : List Reached) (p q : ℕ) (x y : Reached) → Rise reached → slice_get reached p ≡ Some x →
     slice_get reached q ≡ Some y → p < q → x.address < y.address
 greater reached p q x y rise e f less =
     let first : get_or reached p x ≡ x = get_or_from_slice_get reached p x x e in
@@ -21,7 +21,7 @@ greater reached p q x y rise e f less =
     omega (arith, ap (λ (r : Reached). r.address) first, ap (λ (r : Reached). r.address) second)
 
 -- An address has one position, and a greater one has a later position.
-same_place : (reached : List Reached) (p q : ℕ) (x y : Reached) → Rise reached → slice_get reached p ≡ Some x →
+pub same_place : (reached : List Reached) (p q : ℕ) (x y : Reached) → Rise reached → slice_get reached p ≡ Some x →
     slice_get reached q ≡ Some y → x.address ≡ y.address → p ≡ q
 same_place reached p q x y rise e f same = elim (cases_order p q) as (λ _. p ≡ q) [
   | inl here ↦ here
@@ -29,7 +29,7 @@ same_place reached p q x y rise e f same = elim (cases_order p q) as (λ _. p �
   | inr (inr less) ↦ absurd (let up : y.address < x.address = greater reached q p y x rise f e less in omega arith)
 ]
 
-later_place : (reached : List Reached) (p q : ℕ) (x y : Reached) → Rise reached → slice_get reached p ≡ Some x →
+pub later_place : (reached : List Reached) (p q : ℕ) (x y : Reached) → Rise reached → slice_get reached p ≡ Some x →
     slice_get reached q ≡ Some y → x.address < y.address → p < q
 later_place reached p q x y rise e f up = elim (cases_order p q) as (λ _. p < q) [
   | inl here ↦ absurd (

@@ -1,31 +1,37 @@
 -- What each stage of an analysis tells of a file.
-use Rattle.std.proofs.Common.{◌≡◌, ℕ, ◌<◌, zero, suc, inl, inr, true, false, List, [], ◌∷◌, Some, ap, sym, subst, ◌∙◌, arith}
+use Rattle.std.proofs.Common.{◌≡◌, ℕ, ◌<◌, ◌≤◌, ◌*◌, true, false, cond, List, [], ◌∷◌, length, Option, Some, refl, sym, ap, subst, ◌∙◌, arith}
+use Rattle.std.specs.Prelude.{Bool}
 use Rattle.cache_config.specs.declared.profile.Profile.{Profile}
 use Rattle.elf_mips.specs.declared.image.Image.{Image}
 use Rattle.flow_net.specs.Numbers.{item_at}
-use Rattle.flow_net.specs.Paths.{IsPath, IsRunPath}
+use Rattle.flow_net.specs.Scopes.{Holds, IsWithin}
+use Rattle.flow_net.specs.declared.net.LoopInst.{LoopInst}
 use Rattle.flow_net.specs.declared.net.Net.{Net}
-use Rattle.flow_net.specs.declared.net.NetArc.{NetArc}
 use Rattle.flow_net.specs.declared.net.Place.{Place}
-use Rattle.cache_config.specs.Instructions.{costs_of}
-use Rattle.net_model.specs.declared.unit.CodeUnit.{CodeUnit}
+use Rattle.ipet_program.specs.Programs.{IsProgramOf, crude_limit, crude_of, place_price, price_at}
+use Rattle.ipet_program.specs.Scopes.{TellsHeld, bound_of}
+use Rattle.ipet_program.specs.Sums.{product_to, sum_to}
+use Rattle.ipet_program.specs.declared.certificate.Certificate.{Certificate}
+use Rattle.ipet_program.proofs.CertificateLaw.{certificate-bound}
+use Rattle.loop_nest.specs.Nests.{IsNest}
+use Rattle.loop_nest.specs.declared.nest.Loop.{Loop}
+use Rattle.loop_nest.proofs.NetOnce.{loops-same, places-same}
 use Rattle.net_model.specs.declared.unit.Content.TheVariants.{Unit as Stands}
 use Rattle.net_model.specs.Units.{content_at}
 use Rattle.net_model.specs.Onward.{returns}
 use Rattle.net_model.specs.Reached.{IsReached}
 use Rattle.net_model.specs.Faults.{HasNoFault as HasNoCodeFault}
-use Rattle.net_model.specs.Net.{IsNet, IsPlaceAt, LeadsOn, LeadsTo}
+use Rattle.net_model.specs.Net.{IsNet, Returns}
 use Rattle.wcet_engine.specs.declared.analysis.Refused.{Refused}
 use Rattle.wcet_engine.specs.declared.analysis.Refused.TheVariants.{Fault, Memory}
-use Rattle.wcet_engine.specs.Code.{IsCodeBound, TellsCode, TellsNoReturn, TellsUnbuilt}
-use Rattle.wcet_engine.specs.Costliest.{IsCostliest, place_price}
-use Rattle.wcet_engine.specs.Faults.{HasNoReturn, IsAnalysis, IsPlainCostliest, TellsFault}
+use Rattle.wcet_engine.specs.Code.{Certifies, IsCertified, TellsCode, TellsNoReturn, TellsTooLarge, TellsUnbuilt}
+use Rattle.wcet_engine.specs.Faults.{HasNoReturn, IsAnalysis, IsPlainTooLarge, IsTooLarge, TellsFault}
 use Rattle.wcet_engine.specs.Sentence.{IsPlain}
-use Rattle.wcet_engine.specs.Unbuilt.{IsUnbuiltAt}
-use Rattle.wcet_engine.proofs.FaultLemmas.{HasNoFault-free, IsFirstFault-code, IsFirstFault-never, IsFirstFault-unbuilt, IsFreeBelow, free-whole}
+use Rattle.wcet_engine.specs.Unbuilt.{IsLeft, IsUnbuiltAt}
+use Rattle.wcet_engine.proofs.FaultLemmas.{HasNoFault-free, IsFirstFault-code, IsFirstFault-large, IsFirstFault-never, IsFirstFault-unbuilt, IsFreeBelow, free-whole}
 use Rattle.wcet_engine.proofs.NetBound.{Bounds-net}
 use Rattle.wcet_engine.proofs.PlainCosts.{same-price}
-use Rattle.wcet_engine.proofs.TableLemmas.{All-at, built-followed}
+use Rattle.wcet_engine.proofs.RunPaths.{IsFollowed}
 
 pub tells-unbuilt : (file : List ℕ) (image : Image) (told : Refused) → IsFreeBelow file image 9 →
     TellsUnbuilt image told → TellsFault file told
@@ -40,95 +46,96 @@ pub tells-never : (file : List ℕ) (image : Image) (told : Refused) → IsFreeB
 tells-never file image (Fault refusal) free told = IsFirstFault-never file image refusal free told.0 told.1 told.2
 tells-never file image Memory free told = tt
 
--- The last arc of a path to 0 leaves a return unit.
-record ReturnsAt (image : Image) (entry : ℕ) : Type 0 where
-  address : ℕ
-  unit : CodeUnit
-  reached : IsReached image entry address
-  stands : content_at image address ≡ Stands unit
-  returning : returns unit ≡ true
-
-no-zero : (net : Net) (address : ℕ) → IsPlaceAt net 0 address → ⊥
-no-zero net address at = let no = at.there in cc
-
-place-reached : (image : Image) (entry : ℕ) (net : Net) (number : ℕ) (place : Place) → IsNet image entry net →
-    item_at number net.places ≡ Some place → IsReached image entry place.address
-place-reached image entry net zero place is there = cc
-place-reached image entry net (suc position) place is there =
-    All-at (λ (p : Place). IsReached image entry p.address) net.places position place is.reached there
-
-by_leads : (image : Image) (entry : ℕ) (net : Net) (from : ℕ) (is : IsNet image entry net) (leads : LeadsOn image net from 0) →
-    LeadsTo net leads.unit leads.place.address 0 → ReturnsAt image entry
-by_leads image entry net from is leads (inl on) = absurd (no-zero net on.0 on.2)
-by_leads image entry net from is leads (inr back) = record {
-  address = leads.place.address;
-  unit = leads.unit;
-  reached = place-reached image entry net from leads.place is leads.there;
-  stands = leads.stands;
-  returning = back.1;
+-- Under one plain profile the crude bound is too large, so it is under each.
+plain-large : (image : Image) (profile : Profile) → IsPlain profile → IsTooLarge image profile → IsPlainTooLarge image
+plain-large image profile plain large other plain' = record {
+  net = large.net;
+  is_net = large.is_net;
+  large = λ holds told.
+      subst (λ (price : ℕ → ℕ). crude_limit < crude_of large.net holds price) (same-price image profile other large.net plain plain')
+      (large.large holds told);
 }
 
--- An arc that leaves a place isn't the first one.
-later-arc : (image : Image) (entry : ℕ) (net : Net) (number from : ℕ) (arc : NetArc) → IsNet image entry net → 0 < from →
-    item_at number net.arcs ≡ Some arc → arc.from ≡ from → 1 < number
-later-arc image entry net zero from arc is positive there same = cc
-later-arc image entry net (suc zero) from arc is positive there same =
-    let one : Some arc ≡ Some is.first.0 = sym there ∙ is.first.1 in
-    let here : arc.from ≡ is.first.0.from = let e : arc ≡ is.first.0 = cc in ap (λ (a : NetArc). a.from) e in
-    absurd (let zero_from = is.first.2 in omega (arith, positive, same, here, zero_from))
-later-arc image entry net (suc (suc n)) from arc is positive there same = omega arith
+pub tells-large : (file : List ℕ) (image : Image) (profile : Profile) (told : Refused) → IsPlain profile → IsFreeBelow file image 19 →
+    TellsTooLarge image profile told → TellsFault file told
+tells-large file image profile (Fault refusal) plain free told =
+    IsFirstFault-large file image refusal free told.0 told.1 (plain-large image profile plain told.2)
+tells-large file image profile Memory plain free told = tt
 
-path-returns : (image : Image) (entry : ℕ) (net : Net) → IsNet image entry net → (numbers : List ℕ) (from : ℕ) → 0 < from →
-    IsPath net.arcs from numbers 0 → ReturnsAt image entry
-path-returns image entry net is [] from positive path = absurd (omega (arith, positive, path))
-path-returns image entry net is (number ∷ []) from positive path =
-    let arc = path.1.0 in
-    let later = later-arc image entry net number from arc is positive path.1.1 path.1.2 in
-    let leads : LeadsOn image net arc.from 0 = subst (LeadsOn image net arc.from) path.1.3 (is.ways number arc path.1.1 later) in
-    by_leads image entry net arc.from is leads leads.leads
-path-returns image entry net is (number ∷ other ∷ more) from positive path =
-    path-returns image entry net is (other ∷ more) path.1.0.to path.1.3.0 path.1.3
-
-run-returns : (image : Image) (entry : ℕ) (net : Net) → IsNet image entry net → (numbers : List ℕ) →
-    IsRunPath net.arcs numbers 0 → ReturnsAt image entry
-run-returns image entry net is [] path = absurd path
-run-returns image entry net is (number ∷ numbers) path =
-    let arc = path.1.0 in
-    let here : arc ≡ is.first.0 = let e : Some arc ≡ Some is.first.0 = sym (subst (λ (n : ℕ). item_at n net.arcs ≡ Some arc) path.0 path.1.1) ∙ is.first.1 in cc in
-    let to : arc.to ≡ is.first.0.to = ap (λ (a : NetArc). a.to) here in
-    path-returns image entry net is numbers arc.to
-    (let positive = positive-place net is.first.0.to entry is.first.3 in omega (arith, positive, to)) path.1.3 where
-      positive-place : (net : Net) (number address : ℕ) → IsPlaceAt net number address → 0 < number
-      positive-place net zero address at = absurd (no-zero net address at)
-      positive-place net (suc n) address at = omega arith
-
-returns-not : (image : Image) → ReturnsAt image image.entry → HasNoReturn image → ⊥
+-- A unit that returns.
+pub returns-not : (image : Image) → Returns image image.entry → HasNoReturn image → ⊥
 returns-not image back none = let no : true ≡ false = sym back.returning ∙ none back.address back.unit back.reached back.stands in cc
 
-pub bound-returns : (image : Image) (profile : Profile) (bound : ℕ) → IsCodeBound image profile bound → HasNoReturn image → ⊥
-bound-returns image profile bound is none =
-    returns-not image (run-returns image image.entry is.net is.is_net is.costliest.path is.costliest.whole) none
+-- The crude bound by places and loop instances.
+abbrev crude-by : Profile → Image → (ℕ → ℕ → Bool) → List Place → List LoopInst → ℕ
+crude-by profile image holds places loops =
+    sum_to (length places) (λ place. price_at profile image (item_at place places)
+    * product_to (length loops) (λ scope. cond (holds scope place) (bound_of (item_at scope loops)) 1))
 
--- The cost of the costliest path under one plain profile is that under each.
-plain-costliest : (image : Image) (profile : Profile) (net : Net) (bound : ℕ) → IsPlain profile →
-    IsCostliest (place_price (costs_of profile) image net) net.arcs bound → IsPlainCostliest image net bound
-plain-costliest image profile net bound plain costliest other plain' =
-    subst (λ (price : ℕ → ℕ). IsCostliest price net.arcs bound) (same-price image profile other net plain plain') costliest
+crude-same : (profile : Profile) (image : Image) (holds : ℕ → ℕ → Bool) (net other : Net) → net.places ≡ other.places → net.loops ≡ other.loops →
+    crude_of net holds (place_price profile image net) ≡ crude_of other holds (place_price profile image other)
+crude-same profile image holds net other places loops =
+    ap (λ (ps : List Place). crude-by profile image holds ps net.loops) places
+    ∙ ap (λ (ls : List LoopInst). crude-by profile image holds other.places ls) loops
+
+held-same : (net other : Net) → net.places ≡ other.places → net.loops ≡ other.loops → (scope number : ℕ) → Holds net scope number → Holds other scope number
+held-same net other places loops scope number holds = record {
+  place = holds.place;
+  there = sym (ap (λ (ps : List Place). item_at number ps) places) ∙ holds.there;
+  within = subst (λ (ls : List LoopInst). IsWithin ls scope holds.place.scope) loops holds.within;
+}
+
+told-same : (net other : Net) (holds : ℕ → ℕ → Bool) → net.places ≡ other.places → net.loops ≡ other.loops → TellsHeld net holds → TellsHeld other holds
+told-same net other holds places loops told scope number =
+    let both = told scope number in (
+      λ test. held-same net other places loops scope number (both.0 test),
+      λ held. both.1 (held-same other net (sym places) (sym loops) scope number held),
+    )
+
+-- The crude bound of a net whose program is built isn't too large, and a function has one net.
+fitting : (image : Image) (profile : Profile) (certificate : Certificate) → IsCertified image profile certificate → IsTooLarge image profile → ⊥
+fitting image profile certificate is large =
+    let program = is.certifies.is in
+    let places = places-same image image.entry is.net large.net is.is_net large.is_net in
+    let loops = loops-same image image.entry is.net large.net is.is_net large.is_net in
+    let above = large.large program.holds (told-same is.net large.net program.holds places loops program.told) in
+    let same = crude-same profile image program.holds is.net large.net places loops in
+    let low = program.low in
+    omega (arith, above, same, low)
 
 -- A file without a fault is analysed.
-pub is-analysed : (file : List ℕ) (image : Image) (profile : Profile) (bound : ℕ) → IsFreeBelow file image 18 → HasNoCodeFault image image.entry →
-    ((place : ℕ) → IsUnbuiltAt image image.entry place → ⊥) → IsPlain profile → IsCodeBound image profile bound →
-    IsAnalysis file (record { bound = bound })
-is-analysed file image profile bound free faultless built plain is =
-    let every = plain-costliest image profile is.net bound plain is.costliest in
+pub is-analysed : (file : List ℕ) (image : Image) (profile : Profile) (certificate : Certificate) → IsFreeBelow file image 19 →
+    HasNoCodeFault image image.entry → ((place : ℕ) → IsUnbuiltAt image image.entry place → ⊥) → IsPlain profile →
+    IsCertified image profile certificate → IsAnalysis file (record { certificate = certificate })
+is-analysed file image profile certificate free faultless built plain is =
+    let certifies = is.certifies in
     record {
-      faultless = HasNoFault-free file image (free-whole file image free (bound-returns image profile bound is));
+      faultless = HasNoFault-free file image
+          (free-whole file image free (λ large. fitting image profile certificate is (large profile plain)));
       image = image;
       read = free.read;
       net = is.net;
       is_net = is.is_net;
-      costliest = every;
-      bounds = λ other plain'. Bounds-net image other image.entry is.net bound image.filled
-          (record { low = image.low; faultless = faultless; followed = built-followed image image.entry built; is_net = is.is_net })
-          (every other plain');
+      program = certifies.program;
+      is_program = λ other plain'.
+          subst (λ (price : ℕ → ℕ). IsProgramOf is.net price certifies.program)
+          (same-price image profile other is.net plain plain') certifies.is;
+      valid = certifies.valid;
+      reached = certifies.reached;
+      greatest = certificate-bound certifies.program certificate certifies.checkable certifies.valid;
+      bounds = λ other plain'. Bounds-net image other image.entry is.net certificate image.filled
+          (record {
+            low = image.low;
+            faultless = faultless;
+            followed = λ a reached left. built a (record { reached = reached; left = left });
+            is_net = is.is_net;
+          })
+          (record {
+            program = certifies.program;
+            is = subst (λ (price : ℕ → ℕ). IsProgramOf is.net price certifies.program)
+                (same-price image profile other is.net plain plain') certifies.is;
+            checkable = certifies.checkable;
+            valid = certifies.valid;
+            reached = certifies.reached;
+          });
     }

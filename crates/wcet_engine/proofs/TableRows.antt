@@ -15,7 +15,7 @@ use Rattle.net_model.specs.Units.{content_at}
 use Rattle.unit_graph.specs.Graphs.{IsSetOf}
 use Rattle.unit_graph.specs.declared.reached.Reached.{Reached}
 use Rattle.wcet_engine.specs.declared.table.Steps.{Steps}
-use Rattle.wcet_engine.specs.Prices.{IsOfCode}
+use Rattle.wcet_engine.specs.Rows.{IsOfCode}
 use Rattle.wcet_engine.specs.Rows.{AreStepsTo, GoesTo, IsAmong, IsRowOf, addresses_of}
 use Rattle.wcet_engine.specs.Table.{IsTable, steps_in}
 

@@ -17,7 +17,7 @@ use Rattle.net_model.specs.Units.{Holds, Lacks, Word, content_at, content_of, is
 use Rattle.unit_graph.proofs.LowWords.{word_low}
 use Rattle.unit_graph.specs.Ways.{IfPlaced, IsPlaced}
 use Rattle.ipet_program.specs.Costs.{IfStanding}
-use Rattle.wcet_engine.specs.Prices.{IsOfCode}
+use Rattle.wcet_engine.specs.Rows.{IsOfCode}
 use Rattle.unit_graph.specs.declared.reached.Reached.{Reached}
 
 -- Only a word's low 32 bits are decoded.

@@ -7,9 +7,11 @@ use Rattle.std.proofs.lemmas.List.Kept.{AllPairs-cons}
 use Rattle.std.proofs.lemmas.Option.{same_Some, slice_get-get_or, slice_get_read}
 use Rattle.flow_net.specs.declared.net.NetArc.{NetArc}
 use Rattle.net_model.specs.Net.{IsArcBefore, IsTargetBefore}
+use Rattle.net_model.specs.Reached.{first as first_reached}
 use Rattle.unit_graph.specs.declared.reached.Reached.{Reached}
 use Rattle.wcet_engine.specs.declared.table.Steps.{Steps}
-use Rattle.wcet_engine.specs.Arcs.{AreArcs, AreWays, IsWay, IsWayArc, arc_to, arcs_from, ends_of, leaves, targets_of}
+use Rattle.wcet_engine.specs.Arcs.{AreArcs, AreWays, IsOfFunction, IsWay, IsWayArc, arc_to, arcs_from, ends_of, leaves, targets_of}
+use Rattle.wcet_engine.specs.Rows.{addresses_of}
 use Rattle.wcet_engine.specs.Table.{IsAt, IsTable, Rises, listed, steps_in}
 
 -- Pairs of a list in two parts, and of a mapped list.
@@ -206,3 +208,7 @@ row-read reached table position one d is inside read =
       steps_there = slice_get-get_or table position d within;
       rising = is.rising position d within;
     }
+
+-- The entry is reached.
+pub entry_reached : (entry : ℕ) (reached : List Reached) → IsOfFunction entry reached → Contains (addresses_of reached) entry
+entry_reached entry reached of_function = of_function.1.whole entry first_reached

@@ -1,5 +1,5 @@
 -- The arcs of a function's net, from the positions of its units. The number of a place is its position and 1.
-use Rattle.std.specs.Prelude.{◌≡◌, ℕ, ◌+◌, ◌<◌, ◌⊎◌, Bool, true, false, List, [], ◌∷◌, ◌++◌, map, All, AllPairs, Contains, Some, slice_get, if◌then◌else◌}
+use Rattle.std.specs.Prelude.{◌≡◌, ℕ, ◌+◌, ◌<◌, ◌⊎◌, Bool, true, false, List, [], ◌∷◌, ◌++◌, length, map, count_by, All, AllPairs, Contains, Some, slice_get, if◌then◌else◌}
 use Rattle.elf_mips.specs.declared.image.Image.{Image}
 use Rattle.flow_net.specs.declared.net.NetArc.{NetArc}
 use Rattle.flow_net.specs.declared.net.Place.{Place}
@@ -16,17 +16,28 @@ use Rattle.wcet_engine.specs.Table.{IsAt, IsStep}
 abbrev pub IsOfFunction : ℕ → List Reached → Type 0
 IsOfFunction entry reached = (image : Image) × AreReached image entry reached
 
--- The place of what is reached: the function has one context and no loop.
-abbrev pub place_of : Reached → Place
-place_of one = record { context = 0; address = one.address; scope = 0 }
+-- The place of what is reached, in the function's one context.
+pub record IsPlaceFor (reached : List Reached) (scopes : List ℕ) (position : ℕ) (place : Place) : Type 0 where
+  pub one : Reached
+  pub there : slice_get reached position ≡ Some one
+  pub scope : slice_get scopes position ≡ Some place.scope
+  pub context : place.context ≡ 0
+  pub same : place.address ≡ one.address
 
-abbrev pub places_of : List Reached → List Place
-places_of reached = map place_of reached
+-- The places of the first positions.
+pub record ArePlaces (reached : List Reached) (scopes : List ℕ) (done : ℕ) (places : List Place) : Type 0 where
+  pub count : length places ≡ done
+  pub each : (position : ℕ) (place : Place) → slice_get places position ≡ Some place →
+      IsPlaceFor reached scopes position place
 
 -- A return unit stands there.
 abbrev pub leaves : Content → Bool
 leaves (Stands unit) = returns unit
 leaves (Fault kind place) = false
+
+-- How many of them return.
+abbrev pub returns_in : List Reached → ℕ
+returns_in reached = count_by (λ (one : Reached). leaves one.content) reached
 
 -- The targets of a unit's arcs: the places that may follow, and 0 behind a return.
 abbrev pub ends_of : Bool → List ℕ

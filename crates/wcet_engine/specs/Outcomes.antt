@@ -1,5 +1,5 @@
 -- What the sink holds after a call, by its status.
-use Rattle.std.specs.Prelude.{◌≡◌, ℕ, List, Option}
+use Rattle.std.specs.Prelude.{◌≡◌, ℕ, ◌⊎◌, List, Option}
 use Rattle.std.specs.Io.KnownBytes.{Appends}
 use Rattle.wcet_io.specs.Fronts.{AppendsFront}
 use Rattle.wcet_engine.specs.declared.analysis.Analysis.{Analysis}
@@ -29,6 +29,18 @@ pub record TakesFront (file : Option (List ℕ)) (before now : Option (List ℕ)
   pub holds : IsAnswer file given
   pub taken : AppendsFront before now (text_of given)
 
+-- The status of an answer that was taken whole.
+abbrev pub status_of : Answer → Status
+status_of (answer.Analysed analysis) = Done
+status_of (answer.Refused refusal) = Refused
+
+-- What a sink holds after the text of an answer was written to it: it took the text whole, or a front of it, or no text
+-- was made for want of memory.
+abbrev pub Told : Answer → Status → Option (List ℕ) → Option (List ℕ) → Type 0
+Told given status before now =
+    ((status ≡ status_of given) × Appends before now (text_of given))
+    ⊎ (((status ≡ WriteFault) × AppendsFront before now (text_of given)) ⊎ ((status ≡ Memory) × (now ≡ before)))
+
 -- What was written for a file with these contents. What the sink held before stays in front.
 abbrev pub Wrote : Option (List ℕ) → Status → Option (List ℕ) → Option (List ℕ) → Type 0
 Wrote file Done before now = TakesAnalysis file before now
@@ -39,8 +51,3 @@ Wrote file ReadFault before now = now ≡ before
 Wrote file Memory before now = now ≡ before
 Wrote file Open before now = ⊥
 Wrote file Rejected before now = ⊥
-
--- The status of an answer that was taken whole.
-abbrev pub status_of : Answer → Status
-status_of (answer.Analysed analysis) = Done
-status_of (answer.Refused refusal) = Refused

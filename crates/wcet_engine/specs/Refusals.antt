@@ -5,7 +5,7 @@ use Rattle.elf_mips.specs.declared.fault.ElfKind.TheVariants as elf
 use Rattle.net_model.specs.declared.unit.CodeKind.{CodeKind}
 use Rattle.net_model.specs.declared.unit.CodeKind.TheVariants as code
 use Rattle.wcet_engine.specs.declared.refusal.RefusalKind.{RefusalKind}
-use Rattle.wcet_engine.specs.declared.refusal.RefusalKind.TheVariants.{TooLong, Short, NotElf, NotThisKind, BadTable, BadSegment, BadSection, BadRecord, RegionClash, Unbuilt, WritableCode, UnknownWord, TransferInSlot, UnknownTarget, LinkRegister, Recursion, Irreducible, NoBound, NeverReturns}
+use Rattle.wcet_engine.specs.declared.refusal.RefusalKind.TheVariants.{TooLong, Short, NotElf, NotThisKind, BadTable, BadSegment, BadSection, BadRecord, RegionClash, Unbuilt, WritableCode, UnknownWord, TransferInSlot, UnknownTarget, LinkRegister, Recursion, Irreducible, NoBound, NeverReturns, BoundTooLarge}
 
 -- The rank of a kind: of several kinds that a file has, the one of the least rank is answered.
 abbrev pub rank : RefusalKind → ℕ
@@ -28,6 +28,7 @@ rank Recursion = 15
 rank Irreducible = 16
 rank NoBound = 17
 rank NeverReturns = 18
+rank BoundTooLarge = 19
 
 -- The name of a kind in a refusal line.
 abbrev pub name_of : RefusalKind → List ℕ
@@ -50,6 +51,7 @@ name_of Recursion = codes "recursion"
 name_of Irreducible = codes "irreducible"
 name_of NoBound = codes "no-bound"
 name_of NeverReturns = codes "never-returns"
+name_of BoundTooLarge = codes "bound-too-large"
 
 -- The kind of a fault of the reader.
 abbrev pub kind_of : ElfKind → RefusalKind

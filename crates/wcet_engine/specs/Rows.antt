@@ -1,11 +1,17 @@
 -- The steps of one unit: the positions of its onward units.
 use Rattle.std.specs.Prelude.{◌≡◌, ℕ, List, map, All, Contains, Some, slice_get}
+use Rattle.elf_mips.specs.declared.image.Image.{Image}
 use Rattle.net_model.specs.declared.unit.CodeUnit.{CodeUnit}
 use Rattle.net_model.specs.declared.unit.Content.TheVariants.{Unit as Stands}
 use Rattle.net_model.specs.Onward.{onward}
+use Rattle.unit_graph.specs.Contents.{AreReached}
 use Rattle.unit_graph.specs.declared.reached.Reached.{Reached}
 use Rattle.wcet_engine.specs.declared.table.Steps.{Steps}
 use Rattle.wcet_engine.specs.Table.{Rises, steps_in}
+
+-- The list is what some function of an image reaches.
+abbrev pub IsOfCode : List Reached → Type 0
+IsOfCode reached = (image : Image) × (entry : ℕ) × AreReached image entry reached
 
 abbrev pub addresses_of : List Reached → List ℕ
 addresses_of reached = map (λ (one : Reached). one.address) reached

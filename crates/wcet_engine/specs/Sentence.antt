@@ -11,9 +11,9 @@ use Rattle.mips_machine.specs.Run.{IsMachineRun, last_machine, values_of}
 use Rattle.wcet_engine.specs.Records.{KeepsRecords}
 
 -- What the sentence asks of a run: it joins, keeps the records, returns to its callers, and its entry returned.
-pub record IsSpokenOf (image : Image) (m : Machine) (machines : List Machine) : Type 0 where
+pub record IsSpokenOf (image : Image) (entry : ℕ) (m : Machine) (machines : List Machine) : Type 0 where
   pub run : IsMachineRun m machines
-  pub records : KeepsRecords image (code_at m.values.regions) m.values (values_of machines)
+  pub records : KeepsRecords image entry (code_at m.values.regions) m.values (values_of machines)
   pub callers : ReturnsToCallers (code_at m.values.regions) [] m.values (values_of machines)
   pub returned : HasReturned m.values (values_of machines)
 
@@ -21,7 +21,7 @@ pub record IsSpokenOf (image : Image) (m : Machine) (machines : List Machine) : 
 -- returned, its cycles are at most the bound.
 abbrev pub Bounds : Image → Profile → ℕ → ℕ → Type 0
 Bounds image profile entry bound =
-    (m : Machine) → IsMachineStart image profile entry m → (machines : List Machine) → IsSpokenOf image m machines →
+    (m : Machine) → IsMachineStart image profile entry m → (machines : List Machine) → IsSpokenOf image entry m machines →
     (last_machine m machines).cycles ≤ bound
 
 -- The plain profile: no regions, memory and stores take 10 cycles, each instruction 1 of its own, the stack

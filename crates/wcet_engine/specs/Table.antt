@@ -1,5 +1,5 @@
 -- How the units of a function follow one another, by their positions in the list of what is reached.
-use Rattle.std.specs.Prelude.{◌≡◌, ℕ, ◌<◌, ◌⊎◌, List, [], ◌∷◌, ◌++◌, length, All, Contains, Option, Some, None, slice_get, Bool, true}
+use Rattle.std.specs.Prelude.{◌≡◌, ℕ, ◌<◌, List, [], ◌∷◌, ◌++◌, length, All, Contains, Option, Some, None, slice_get}
 use Rattle.net_model.specs.declared.unit.CodeUnit.{CodeUnit}
 use Rattle.net_model.specs.declared.unit.Content.TheVariants.{Unit as Stands}
 use Rattle.net_model.specs.Onward.{onward}
@@ -47,39 +47,6 @@ pub record IsTable (reached : List Reached) (table : List Steps) : Type 0 where
   pub rising : All (λ steps. Rises (steps_in steps)) table
   pub sound : (from to : ℕ) → IsStep table from to → Follows reached from to
   pub whole : (from to : ℕ) → Follows reached from to → IsStep table from to
-
--- A trail along steps, over these positions.
-abbrev pub IsTrail : List Steps → ℕ → List ℕ → ℕ → Type 0
-IsTrail table from [] to = from ≡ to
-IsTrail table from (later ∷ more) to = IsStep table from later × IsTrail table later more to
-
--- A position lies on a ring: a trail leads from it on and back to it.
-pub record IsOnRing (table : List Steps) (position : ℕ) : Type 0 where
-  pub later : ℕ
-  pub more : List ℕ
-  pub begins : IsStep table position later
-  pub back : IsTrail table later more position
-
--- A position is barred where it is marked, or lies on a ring.
-abbrev pub IsBarred : List Steps → List Bool → ℕ → Type 0
-IsBarred table marks position = (slice_get marks position ≡ Some true) ⊎ IsOnRing table position
-
--- The positions that trails from the entry come to before they pass a barred one.
-pub data IsOpen (table : List Steps) (marks : List Bool) (entry : ℕ) : ℕ → Type 0 where
-  first : IsOpen table marks entry entry
-  next : (from to : ℕ) → IsOpen table marks entry from → (IsBarred table marks from → ⊥) →
-      IsStep table from to → IsOpen table marks entry to
-
--- The first barred position on a trail from the entry.
-pub record IsBarrier (table : List Steps) (marks : List Bool) (entry position : ℕ) : Type 0 where
-  pub met : IsOpen table marks entry position
-  pub barred : IsBarred table marks position
-
--- A number for each position, that falls along each step.
-pub record AreRanks (table : List Steps) (ranks : List ℕ) : Type 0 where
-  pub count : length ranks ≡ length table
-  pub falls : (from to : ℕ) → IsStep table from to → (rank other : ℕ) → slice_get ranks from ≡ Some rank →
-      slice_get ranks to ≡ Some other → other < rank
 
 -- The position holds the address.
 pub record IsAt (reached : List Reached) (position address : ℕ) : Type 0 where

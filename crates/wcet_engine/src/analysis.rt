@@ -3,18 +3,20 @@
 ghost use Rattle.std.specs.Prelude.{◌≡◌, ◌≤◌, length, IfOk, IfErr};
 
 use crate::clash::clash_place;
-use crate::code::{bound_of, built_code, check_code};
+use crate::certificate::certify;
+use crate::code::{check_return, followed_code, loops_of};
 use crate::refusal::{Refusal, RefusalKind};
 use cache_config::Profile;
 use elf_mips::{ElfFault, read_image};
+use ipet_program::Certificate;
 use std::alloc::{AllocError, Global};
 use unit_graph::CodeFault;
 
 /// What the analysis of a file found.
-#[derive(Clone, Copy, Debug, PartialEq, Eq)]
+#[derive(Debug, Drop)]
 pub struct Analysis {
-    /// The cycles that the entry function takes at most.
-    pub bound: u64,
+    /// The certificate of the cycles that the entry function takes at most.
+    pub certificate: Certificate,
 }
 
 /// Why a file isn't analysed.
@@ -87,8 +89,9 @@ pub fn analyse_bytes(alloc: Global, elf: &[u8]) -> Result<Analysis, Refused>
     if let Some(place) = clash_place(&image, &profile) {
         return Err(Refused::at(RefusalKind::RegionClash, place));
     }
-    let code = built_code(alloc, &image)?;
-    check_code(alloc, &image)?;
-    let bound = bound_of(alloc, &image, &profile, &code)?;
-    Ok(Analysis { bound })
+    let code = followed_code(alloc, &image)?;
+    let nests = loops_of(alloc, &image)?;
+    check_return(&image, code.reached.as_slice())?;
+    let certificate = certify(alloc, &image, &profile, &code, &nests)?;
+    Ok(Analysis { certificate })
 }

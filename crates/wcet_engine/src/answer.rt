@@ -12,7 +12,7 @@ use wcet_io::{GatherFault, Shelf, gather};
 const FILE_LIMIT: u32 = 16_777_216;
 
 /// What the output says of a file.
-#[derive(Clone, Copy, Debug, PartialEq, Eq)]
+#[derive(Debug, Drop)]
 pub enum Answer {
     /// The file's analysis.
     Analysed(Analysis),

@@ -1,33 +1,33 @@
 //! The stages of an analysis that look at an image's code.
 
-ghost use Rattle.std.specs.Prelude.{◌≡◌, IfOk, IfErr, OnOk};
+ghost use Rattle.std.specs.Prelude.{◌≡◌, find, IfOk, IfErr, OnOk};
+ghost use Rattle.std.specs.Option.{option_map};
 ghost use Rattle.net_model.specs.Faults.{HasNoFault};
+ghost use Rattle.net_model.specs.Net.{Returns};
+ghost use Rattle.unit_graph.specs.Contents.{AreReached};
 
 use crate::analysis::Refused;
-use crate::net::net_of;
-use crate::order::{Order, order_of};
-use crate::price::prices_of;
+use crate::net::leaves;
 use crate::refusal::RefusalKind;
-use crate::sweep::costliest;
-use crate::table::{Steps, position_of, steps_of};
-use cache_config::{Costs, Profile};
+use crate::table::{Steps, steps_of};
 use elf_mips::Image;
+use loop_nest::{Nests, find_loops};
 use net_model::Content;
-use std::alloc::{AllocError, Global};
+use std::alloc::Global;
 use unit_graph::{Reached, calls, function_graphs, is_indirect, reached_contents};
 use wcet_io::List;
 
-/// What an entry function reaches: its units by rising addresses, how they follow one another by
-/// their positions, and ranks that fall along each step.
+/// What an entry function reaches: its units by rising addresses, and how they follow one another by
+/// their positions.
 #[derive(Debug, Drop)]
 pub struct Code {
     pub reached: List<Reached>,
     pub table: Vec<Steps>,
-    pub ranks: Vec<u32>,
 }
 
-ghost use Rattle.wcet_engine.specs.Unbuilt.{content_left, marks_of};
-ghost use Rattle.wcet_engine.specs.Code.{IsBuiltCode, IsCodeBound, TellsCode, TellsNoReturn, TellsUnbuilt};
+ghost use Rattle.loop_nest.specs.Nests.{AreNests};
+ghost use Rattle.wcet_engine.specs.Unbuilt.{content_left};
+ghost use Rattle.wcet_engine.specs.Code.{IsFollowedCode, TellsCode, TellsNoReturn, TellsUnbuilt};
 
 /// Whether a unit isn't followed: it may call, or jumps to recorded targets.
 fn is_left(content: &Content) -> bool
@@ -39,69 +39,58 @@ fn is_left(content: &Content) -> bool
     }
 }
 
-/// Marks the units that aren't followed.
-fn marks_of(alloc: Global, reached: &[Reached]) -> Result<Vec<bool>, AllocError>
-    ensures { IfOk result (λ marks. marks.items ≡ marks_of reached.now) }
+/// The address of the first unit that isn't followed.
+fn first_left(reached: &[Reached]) -> Option<u32>
+    ensures { result ≡ option_map (λ one. one.address) (find (λ one. content_left one.content) reached.now) }
 {
-    let mut marks = Vec::with_capacity(alloc, reached.len())?;
     for one in reached {
-        marks.push(is_left(&one.content))?;
+        if is_left(&one.content) {
+            return Some(one.address);
+        }
     }
-    Ok(marks)
+    None
 }
 
-/// The code that an image's entry reaches, where each unit of it is built.
+/// The code that an image's entry reaches, where each unit of it is followed.
 ///
-/// `Fault` is the least unit that isn't built, on a way from the entry that passes no other one.
-pub fn built_code(alloc: Global, image: &Image) -> Result<Code, Refused>
-    ensures code { IfOk result (IsBuiltCode image.now) }
+/// `Fault` is the least unit that isn't followed, on a way from the entry that passes no other one.
+pub fn followed_code(alloc: Global, image: &Image) -> Result<Code, Refused>
+    ensures code { IfOk result (IsFollowedCode image.now) }
     ensures unbuilt { IfErr result (TellsUnbuilt image.now) }
 {
     let reached = reached_contents(alloc, image, image.entry)?;
-    let table = steps_of(alloc, reached.as_slice())?;
-    let marks = marks_of(alloc, reached.as_slice())?;
-    let entry = position_of(reached.as_slice(), image.entry);
-    match order_of(alloc, &table, &marks, entry)? {
-        Order::Ranked(ranks) => Ok(Code {
-            reached,
-            table,
-            ranks,
-        }),
-        Order::Barred(position) => {
-            let place = reached.as_slice()[position].address;
-            Err(Refused::at(RefusalKind::Unbuilt, place))
-        }
+    if let Some(place) = first_left(reached.as_slice()) {
+        return Err(Refused::at(RefusalKind::Unbuilt, place));
     }
+    let table = steps_of(alloc, reached.as_slice())?;
+    Ok(Code { reached, table })
 }
 
-/// Looks for the first fault of the code that an image's entry reaches.
-pub fn check_code(alloc: Global, image: &Image) -> Result<(), Refused>
+/// The loops of the code that an image's entry reaches.
+///
+/// `Fault` is the first fault of this code, or else of its loops.
+pub fn loops_of(alloc: Global, image: &Image) -> Result<Nests, Refused>
+    ensures loops { IfOk result (AreNests image.now image.now.entry) }
     ensures faultless { OnOk result (HasNoFault image.now image.now.entry) }
     ensures bad { IfErr result (TellsCode image.now) }
 {
-    function_graphs(alloc, image, image.entry)?;
-    Ok(())
+    let graphs = function_graphs(alloc, image, image.entry)?;
+    let nests = find_loops(alloc, &graphs, image)?;
+    Ok(nests)
 }
 
-/// The greatest cost of a path from the entry to a return.
+/// Looks for a unit that returns.
 ///
-/// `Fault` says that no unit returns.
-pub fn bound_of(
-    alloc: Global,
-    image: &Image,
-    profile: &Profile,
-    code: &Code,
-) -> Result<u64, Refused>
-    requires code { IsBuiltCode image.now code.now }
-    requires faultless { HasNoFault image.now image.now.entry }
-    ensures bound { IfOk result (IsCodeBound image.now profile.now) }
+/// `Fault` says that there is none.
+pub fn check_return(image: &Image, reached: &[Reached]) -> Result<(), Refused>
+    requires { AreReached image.now image.now.entry reached.now }
+    ensures returns { OnOk result (Returns image.now image.now.entry) }
     ensures never { IfErr result (TellsNoReturn image.now) }
 {
-    let costs = Costs::of_profile(profile);
-    let net = net_of(alloc, image.entry, code.reached.as_slice(), &code.table)?;
-    let prices = prices_of(alloc, &costs, code.reached.as_slice())?;
-    match costliest(alloc, net.arcs.as_slice(), &code.ranks, &prices)? {
-        Some(bound) => Ok(bound),
-        None => Err(Refused::at(RefusalKind::NeverReturns, image.entry)),
+    for one in reached {
+        if leaves(&one.content) {
+            return Ok(());
+        }
     }
+    Err(Refused::at(RefusalKind::NeverReturns, image.entry))
 }

@@ -3,24 +3,18 @@
 
 mod analysis;
 mod answer;
+mod around;
+mod certificate;
 mod clash;
 mod code;
 #[cfg(test)]
 mod code_tests;
+#[cfg(test)]
+mod loop_tests;
 mod net;
-#[cfg(test)]
-mod net_tests;
-mod order;
-#[cfg(test)]
-mod order_tests;
-mod price;
-mod ranks;
 mod refusal;
-mod ring_marks;
-mod search;
 #[cfg(test)]
 mod section_tests;
-mod sweep;
 mod table;
 #[cfg(test)]
 mod tests;

@@ -1,51 +1,41 @@
-//! The net of a function without calls and cycles.
+//! The net of a function without calls.
 
-ghost use Rattle.std.specs.Prelude.{◌≡◌, ◌+◌, ◌^◌, ◌<◌, ◌++◌, All, ℕ, length, map, IfOk, IfSome};
+ghost use Rattle.std.specs.Prelude.{◌≡◌, ◌+◌, ◌*◌, ◌^◌, ◌<◌, ◌≤◌, ◌++◌, All, ℕ, length, map, IfOk, IfSome};
 ghost use Rattle.elf_mips.specs.declared.image.Image.{Image};
 ghost use Rattle.net_model.specs.Net.{IsNet};
 ghost use Rattle.unit_graph.specs.Contents.{AreReached};
-ghost use Rattle.wcet_engine.specs.Arcs.{AreArcs, IsOfFunction, arc_to, arcs_from, ends_of, leaves, place_of, places_of, targets_of};
+ghost use Rattle.loop_nest.specs.Nests.{IsNest};
+ghost use Rattle.wcet_engine.specs.Arcs.{AreArcs, ArePlaces, IsOfFunction, arcs_from, ends_of, leaves, returns_in, targets_of};
+ghost use Rattle.wcet_engine.specs.Around.{AreOfFunction};
 ghost use Rattle.wcet_engine.specs.Table.{IsTable, listed, steps_in};
 
-use crate::table::{Steps, position_of};
+use crate::around::{around_of, instances_of, own_headers};
+use crate::table::{Steps, number_of, position_of};
 use flow_net::{Context, Net, NetArc, Place};
+use loop_nest::Loop;
 use net_model::Content;
 use std::alloc::{AllocError, Global};
 use unit_graph::{Reached, returns};
 use wcet_io::List;
 
-/// The number of the place at a position.
-fn number_of(position: usize) -> u32
-    requires { position < 2 ^ 31 }
-    ensures { result ≡ position + 1 }
-{
-    position as u32 + 1
-}
-
-/// The place of what is reached: the function has one context and no loop.
-fn place_of(one: &Reached) -> Place
-    ensures { result ≡ place_of one.now }
-{
-    Place {
-        context: 0,
-        address: one.address,
-        scope: 0,
-    }
-}
-
-/// A place for each unit that is reached, in their order.
-fn places_of(alloc: Global, reached: &[Reached]) -> Result<Vec<Place>, AllocError>
-    ensures { IfOk result (λ places. places.items ≡ places_of reached.now) }
+/// The places of what is reached, in their order, each with its scope.
+fn places_of(alloc: Global, reached: &[Reached], scopes: &[u32]) -> Result<Vec<Place>, AllocError>
+    requires { length scopes.now ≡ length reached.now }
+    ensures { IfOk result (λ places. ArePlaces reached.now scopes.now (length reached.now) places.items) }
 {
     let mut places = Vec::new(alloc);
-    for one in reached {
-        places.push(place_of(one))?;
+    for (position, one) in reached.iter().enumerate() {
+        places.push(Place {
+            context: 0,
+            address: one.address,
+            scope: scopes[position],
+        })?;
     }
     Ok(places)
 }
 
 /// Whether a return unit stands there.
-fn leaves(content: &Content) -> bool
+pub fn leaves(content: &Content) -> bool
     ensures { result ≡ leaves content.now }
 {
     match content {
@@ -108,7 +98,8 @@ fn arcs_of(
     requires code { IsOfFunction entry reached.now }
     requires table { IsTable reached.now table.now }
     requires few { length reached.now < 2 ^ 31 }
-    ensures { IfOk result (λ arcs. AreArcs reached.now table.now entry (length reached.now) arcs.items) }
+    ensures arcs { IfOk result (λ arcs. AreArcs reached.now table.now entry (length reached.now) arcs.items) }
+    ensures few { IfOk result (λ arcs. length arcs.items + returns_in reached.now ≤ 1 + 2 * length reached.now) }
 {
     let first = position_of(reached, entry);
     let mut arcs = Vec::new(alloc);
@@ -128,7 +119,7 @@ fn arcs_of(
 }
 
 /// The net of a function: a place for each unit that it reaches, by its position, an arc for each way
-/// on, and one to 0 behind each return unit.
+/// on, one to 0 behind each return unit, and an instance of each loop.
 ///
 /// Accesses are left out.
 pub fn net_of(
@@ -136,17 +127,22 @@ pub fn net_of(
     entry: u32,
     reached: &[Reached],
     table: &[Steps],
+    loops: &[Loop],
 ) -> Result<Net, AllocError>
     requires code { IsOfFunction entry reached.now }
+    requires function { AreOfFunction reached.now loops.now }
     requires table { IsTable reached.now table.now }
     requires few { length reached.now < 2 ^ 31 }
-    ensures net { IfOk result
-        (λ net. (image : Image) → AreReached image entry reached.now → IsNet image entry net) }
-    ensures aligned { IfOk result (λ net. net.places ≡ places_of reached.now) }
-    ensures arcs { IfOk result (λ net. AreArcs reached.now table.now entry (length reached.now) net.arcs) }
+    requires few_loops { length loops.now < 2 ^ 31 }
+    ensures net { IfOk result (λ net.
+        (image : Image) → AreReached image entry reached.now → IsNest image entry loops.now → IsNet image entry net) }
+    ensures few { IfOk result (λ net. length net.arcs + returns_in reached.now ≤ 1 + 2 * length reached.now) }
 {
-    let places = places_of(alloc, reached)?;
     let arcs = arcs_of(alloc, entry, reached, table)?;
+    let mut scopes = around_of(alloc, reached, loops)?;
+    let instances = instances_of(alloc, reached, loops, &scopes)?;
+    own_headers(reached, loops, &mut scopes);
+    let places = places_of(alloc, reached, &scopes)?;
     let mut contexts = List::new(alloc);
     contexts.push(Context {
         parent: 0,
@@ -157,7 +153,7 @@ pub fn net_of(
         contexts,
         places: List::from_vec(places),
         arcs: List::from_vec(arcs),
-        loops: List::new(alloc),
+        loops: List::from_vec(instances),
         accesses: List::new(alloc),
     })
 }

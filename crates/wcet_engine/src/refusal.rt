@@ -26,8 +26,8 @@ pub enum RefusalKind {
     BadRecord,
     /// The stack shares an address with a loaded segment. The place is the least such address.
     RegionClash,
-    /// The entry reaches a call, an indirect jump or a cycle, which aren't analysed yet. The place is the
-    /// unit's address.
+    /// The entry reaches a call or an indirect jump, which aren't analysed yet. The place is the unit's
+    /// address.
     Unbuilt,
     /// A reached word lies in a segment that can be executed and written. The place is its address.
     WritableCode,
@@ -41,12 +41,14 @@ pub enum RefusalKind {
     LinkRegister,
     /// A function calls itself, directly or through others. It doesn't come yet.
     Recursion,
-    /// A unit lies on a cycle that isn't entered at one header alone. It doesn't come yet.
+    /// A unit lies on a cycle without back arcs. The place is its address.
     Irreducible,
-    /// A loop has no recorded bound. It doesn't come yet.
+    /// A loop has no recorded bound. The place is its header's address.
     NoBound,
     /// The entry function never returns. The place is its entry.
     NeverReturns,
+    /// The crude bound is above 2^63 - 1. The place is the entry.
+    BoundTooLarge,
 }
 
 /// A kind and its place: an offset in the file, an address or a limit.
@@ -114,6 +116,7 @@ impl RefusalKind {
             RefusalKind::Irreducible => "irreducible",
             RefusalKind::NoBound => "no-bound",
             RefusalKind::NeverReturns => "never-returns",
+            RefusalKind::BoundTooLarge => "bound-too-large",
         }
     }
 }

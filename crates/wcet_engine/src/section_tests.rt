@@ -1,5 +1,6 @@
 //! The top call on a file with sections: a counted loop of bound 5 with its record, whole, changed and cut.
 
+use crate::loop_tests::file_with;
 use crate::tests::{analysed, file_of, put};
 use crate::top::Status;
 use std::alloc::{AllocError, Global};
@@ -8,56 +9,8 @@ use std::test::Fail;
 /// The file: headers, six words from offset 54, the record at 6C, the names at 7C, and three
 /// section headers at 8D, B5 and DD. (All offsets in hexadecimal.)
 fn loop_file(alloc: Global) -> Result<Vec<u8>, AllocError> {
-    let front = [
-        // The ELF header, with three sections from 8D on, the names in section 2.
-        0x7F45_4C46,
-        0x0102_0100,
-        0,
-        0,
-        0x0002_0008,
-        1,
-        0x0040_0000,
-        52,
-        0x8D,
-        0,
-        0x0034_0020,
-        0x0001_0028,
-        0x0003_0002,
-        // The program header.
-        1,
-        84,
-        0x0040_0000,
-        0x0040_0000,
-        24,
-        24,
-        5,
-        4,
-        // The words, and the record that bounds the loop by 5.
-        0x2408_0005,
-        0x2508_FFFF,
-        0x1500_FFFE,
-        0,
-        0x03E0_0008,
-        0,
-        1,
-        0x0040_0004,
-        5,
-        0,
-    ];
-    let back = [
-        0, 0, 0, 0, 0, 0, 0, 0, 0, 0, // an empty section header
-        1, 1, 0, 0, 0x6C, 16, 0, 0, 0, 0, // .wcet
-        7, 3, 0, 0, 0x7C, 17, 0, 0, 0, 0, // .shstrtab
-    ];
-    let mut bytes = Vec::new(alloc);
-    for word in front {
-        bytes.extend_from_slice(&u32::to_be_bytes(word))?;
-    }
-    bytes.extend_from_slice(b"\0.wcet\0.shstrtab\0".as_slice())?;
-    for word in back {
-        bytes.extend_from_slice(&u32::to_be_bytes(word))?;
-    }
-    Ok(bytes)
+    let words = [0x2408_0005, 0x2508_FFFF, 0x1500_FFFE, 0, 0x03E0_0008, 0];
+    file_with(alloc, &words, &[[1, 0x0040_0004, 5, 0]])
 }
 
 #[test]
@@ -65,9 +18,10 @@ fn refuses_changed_sections(rt: HostRuntime) -> Result<(), Fail> {
     let alloc = rt.alloc();
     let file = loop_file(alloc)?;
     assert_eq!(rt; file.len(), 261);
-    // From where on, to what, and the line. Loops themselves aren't analysed yet.
+    // From where on, to what, and the line.
     let rows: [(usize, &[u8], &str); 7] = [
-        (0, &[0x7F], "refused unbuilt 00400004\n"),
+        // The record is of another kind, or at an address where no unit of the loop stands.
+        (0x6F, &[2, 0, 0x40, 0, 4, 0, 0, 0, 4], "refused no-bound 00400004\n"),
         (0x6F, &[9], "refused bad-record 0000006C\n"),
         (0x77, &[0], "refused bad-record 0000006C\n"),
         (0xCC, &[15], "refused bad-section 000000B5\n"),

@@ -1,9 +1,9 @@
 //! How the units of a function follow one another, by their positions.
 
-ghost use Rattle.std.specs.Prelude.{◌≡◌, ◌<◌, All, AllPairs, Contains, IfOk};
+ghost use Rattle.std.specs.Prelude.{◌≡◌, ◌+◌, ◌^◌, ◌<◌, All, AllPairs, Contains, IfOk};
 ghost use Rattle.unit_graph.specs.Contents.{Rise};
 ghost use Rattle.unit_graph.specs.Ways.{listed};
-ghost use Rattle.wcet_engine.specs.Prices.{IsOfCode};
+ghost use Rattle.wcet_engine.specs.Rows.{IsOfCode};
 
 use net_model::Content;
 use std::alloc::{AllocError, Global};
@@ -18,6 +18,14 @@ pub struct Steps {
 
 ghost use Rattle.wcet_engine.specs.Rows.{AreStepsTo, IsRowOf, addresses_of};
 ghost use Rattle.wcet_engine.specs.Table.{IsAt, IsTable};
+
+/// The number of the place at a position.
+pub fn number_of(position: usize) -> u32
+    requires { position < 2 ^ 31 }
+    ensures { result ≡ position + 1 }
+{
+    position as u32 + 1
+}
 
 /// The position of an address that is reached.
 pub fn position_of(reached: &[Reached], address: u32) -> usize

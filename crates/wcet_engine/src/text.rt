@@ -1,12 +1,12 @@
 //! The printed texts.
 
-ghost use Rattle.std.specs.Prelude.{◌≡◌, IfOk};
+ghost use Rattle.std.specs.Prelude.{◌≡◌, ◌++◌, flat_map, IfOk, OnOk};
 ghost use Rattle.std.specs.String.{string_bytes};
-ghost use Rattle.wcet_engine.specs.Texts.{analysis_text, refusal_text, text_of};
+ghost use Rattle.wcet_engine.specs.Texts.{certificate_text, count_text, leaf_head, leaf_text, node_text, refusal_text, text_of, weight_text};
 
-use crate::analysis::Analysis;
 use crate::answer::Answer;
 use crate::refusal::Refusal;
+use ipet_program::{Certificate, Count, Leaf, Node, Weight};
 use std::alloc::{AllocError, Global};
 
 /// The line of a refusal.
@@ -18,12 +18,103 @@ fn print_refusal(alloc: Global, refusal: &Refusal) -> Result<String, AllocError>
     format!(in alloc; "refused {name} {place:08X}\n")
 }
 
-/// The line of an analysis.
-fn print_analysis(alloc: Global, analysis: &Analysis) -> Result<String, AllocError>
-    ensures { IfOk result (λ text. string_bytes text ≡ analysis_text analysis.now) }
+/// Adds the lines of counts.
+fn add_counts(text: &mut String, counts: &[Count]) -> Result<(), AllocError>
+    ensures { OnOk result (string_bytes text.new ≡ string_bytes text.old ++ flat_map count_text counts.now) }
 {
-    let bound = analysis.bound;
-    format!(in alloc; "bound {bound}\n")
+    for count in counts {
+        add_count(text, count)?;
+    }
+    Ok(())
+}
+
+/// Adds the line of a count.
+fn add_count(text: &mut String, count: &Count) -> Result<(), AllocError>
+    ensures { OnOk result (string_bytes text.new ≡ string_bytes text.old ++ count_text count.now) }
+{
+    let column = count.column;
+    let number = count.number;
+    write!(text, "value {column} {number}\n")?;
+    Ok(())
+}
+
+/// Adds the multiplier of a row.
+fn add_weight(text: &mut String, weight: &Weight) -> Result<(), AllocError>
+    ensures { OnOk result (string_bytes text.new ≡ string_bytes text.old ++ weight_text weight.now) }
+{
+    let row = weight.row;
+    let times = weight.times;
+    write!(text, " {row}:{times}")?;
+    Ok(())
+}
+
+/// Adds the multipliers of a leaf's rows.
+fn add_weights(text: &mut String, weights: &[Weight]) -> Result<(), AllocError>
+    ensures { OnOk result (string_bytes text.new ≡ string_bytes text.old ++ flat_map weight_text weights.now) }
+{
+    for weight in weights {
+        add_weight(text, weight)?;
+    }
+    Ok(())
+}
+
+/// Adds how the line of a leaf begins.
+fn add_head(text: &mut String, leaf: &Leaf) -> Result<(), AllocError>
+    ensures { OnOk result (string_bytes text.new ≡ string_bytes text.old ++ leaf_head leaf.now) }
+{
+    if leaf.empty {
+        text.push_str("empty")?;
+        return Ok(());
+    }
+    let denom = leaf.denom;
+    write!(text, "leaf {denom}")?;
+    Ok(())
+}
+
+/// Adds the line of a leaf.
+fn add_leaf(text: &mut String, leaf: &Leaf) -> Result<(), AllocError>
+    ensures { OnOk result (string_bytes text.new ≡ string_bytes text.old ++ leaf_text leaf.now) }
+{
+    add_head(text, leaf)?;
+    add_weights(text, leaf.weights.as_slice())?;
+    text.push_str("\n")?;
+    Ok(())
+}
+
+/// Adds the line of a node of a tree.
+fn add_node(text: &mut String, node: &Node) -> Result<(), AllocError>
+    ensures { OnOk result (string_bytes text.new ≡ string_bytes text.old ++ node_text node.now) }
+{
+    match node {
+        Node::Split { column, at } => {
+            write!(text, "split {column} {at}\n")?;
+            Ok(())
+        }
+        Node::End(leaf) => add_leaf(text, leaf),
+    }
+}
+
+/// Adds the lines of a tree.
+fn add_tree(text: &mut String, tree: &[Node]) -> Result<(), AllocError>
+    ensures { OnOk result (string_bytes text.new ≡ string_bytes text.old ++ flat_map node_text tree.now) }
+{
+    for node in tree {
+        add_node(text, node)?;
+    }
+    Ok(())
+}
+
+/// The lines of a certificate.
+fn print_certificate(alloc: Global, certificate: &Certificate) -> Result<String, AllocError>
+    ensures { IfOk result (λ text. string_bytes text ≡ certificate_text certificate.now) }
+{
+    let bound = certificate.bound;
+    let reached = certificate.reached;
+    let mut text = format!(in alloc; "bound {bound}\nreached {reached}\n")?;
+    add_counts(&mut text, certificate.counts.as_slice())?;
+    add_tree(&mut text, certificate.tree.as_slice())?;
+    text.push_str("end\n")?;
+    Ok(text)
 }
 
 /// The text of an answer.
@@ -31,7 +122,7 @@ pub fn print_answer(alloc: Global, answer: &Answer) -> Result<String, AllocError
     ensures { IfOk result (λ text. string_bytes text ≡ text_of answer.now) }
 {
     match answer {
-        Answer::Analysed(analysis) => print_analysis(alloc, analysis),
+        Answer::Analysed(analysis) => print_certificate(alloc, &analysis.certificate),
         Answer::Refused(refusal) => print_refusal(alloc, refusal),
     }
 }

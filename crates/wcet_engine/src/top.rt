@@ -34,7 +34,7 @@ pub enum Status {
     Rejected,
 }
 
-ghost use Rattle.wcet_engine.specs.Outcomes.{Wrote, status_of};
+ghost use Rattle.wcet_engine.specs.Outcomes.{Told, Wrote, status_of};
 
 /// Analyses the file that the words name, and writes the answer to the sink.
 ///
@@ -70,11 +70,20 @@ pub fn wcet_main<F: Shelf, O: Sink>(
         Err(Stopped::Read) => return Status::ReadFault,
         Err(Stopped::Memory) => return Status::Memory,
     };
-    let Ok(text) = print_answer(alloc, &answer) else {
+    tell(alloc, &answer, out)
+}
+
+/// Writes the text of an answer to the sink.
+fn tell<O: Sink>(alloc: Global, answer: &Answer, out: &mut O) -> Status
+    ensures told { Told answer.now result (O.held out.old) (O.held out.new) }
+    ensures write { result ≡ Status.WriteFault → Rose (O.faults out.old) (O.faults out.new) }
+    ensures later { O.faults out.old ≤ O.faults out.new }
+{
+    let Ok(text) = print_answer(alloc, answer) else {
         return Status::Memory;
     };
     match deliver(out, text.as_bytes()) {
-        Ok(()) => status_of(&answer),
+        Ok(()) => status_of(answer),
         Err(_) => Status::WriteFault,
     }
 }

@@ -2,9 +2,10 @@
 use Rattle.std.proofs.lemmas.Result.{err_from_is_err_and}
 use Rattle.wcet_engine.specs.Clash.{IsClash}
 use Rattle.wcet_engine.specs.Sentence.{IsPlain}
-use Rattle.wcet_engine.proofs.FaultLemmas.{IsFirstFault-clash, TellsFault-tells, free-apart, free-built, free-code, free-read, no-clash}
+use Rattle.wcet_engine.proofs.CodeKinds.{code-faultless}
+use Rattle.wcet_engine.proofs.FaultLemmas.{IsFirstFault-clash, TellsFault-tells, free-apart, free-built, free-code, free-read, free-returning, no-clash}
 use Rattle.wcet_engine.proofs.LeastLemmas.{finds-none}
-use Rattle.wcet_engine.proofs.StageLemmas.{is-analysed, tells-code, tells-never, tells-unbuilt}
+use Rattle.wcet_engine.proofs.StageLemmas.{is-analysed, returns-not, tells-code, tells-large, tells-never, tells-unbuilt}
 use Rattle.wcet_engine.proofs.analysis.analyse_bytes.Goals as goal
 
 pub returns-in_err-image-clause-refused : goal.returns-in_err-image-clause-refused
@@ -24,8 +25,9 @@ returns-in-Some-clause-refused c =
       cycles = e.cycles;
       regions = e.regions;
     } in
-    let free = free-read c.args.elf.now c.in_ok-image.image c.requires c.in_ok-image.ensures.sound c.in_ok-image.ensures.image in
-    rw c.at.ensures (IsFirstFault-clash c.args.elf.now c.in_ok-image.image c.plain-profile.result c.in-Some.place free plain c.in-Some.ensures)
+    let image = c.in_ok-image.image in
+    let free = free-read c.args.elf.now image c.requires c.in_ok-image.ensures.sound c.in_ok-image.ensures.image in
+    rw c.at.ensures (IsFirstFault-clash c.args.elf.now image c.plain-profile.result c.in-Some.place free plain c.in-Some.ensures)
 
 pub returns-in_err-code-clause-refused : goal.returns-in_err-code-clause-refused
 returns-in_err-code-clause-refused c =
@@ -39,15 +41,16 @@ returns-in_err-code-clause-refused c =
       cycles = e.cycles;
       regions = e.regions;
     } in
-    let free = free-read c.args.elf.now c.in_ok-image.image c.requires c.in_ok-image.ensures.sound c.in_ok-image.ensures.image in
-    let apart = no-clash c.in_ok-image.image c.plain-profile.result plain
-    (finds-none (IsClash c.in_ok-image.image c.plain-profile.result) c.clash_place.result c.in_default.not-Some c.clash_place.ensures) in
-    let nine = free-apart c.args.elf.now c.in_ok-image.image free apart in
+    let image = c.in_ok-image.image in
+    let free = free-read c.args.elf.now image c.requires c.in_ok-image.ensures.sound c.in_ok-image.ensures.image in
+    let apart = no-clash image c.plain-profile.result plain
+    (finds-none (IsClash image c.plain-profile.result) c.clash_place.result c.in_default.not-Some c.clash_place.ensures) in
+    let nine = free-apart c.args.elf.now image free apart in
     let p = err_from_is_err_and c.from_residual-in_err-code.result c.from_residual-in_err-code.ensures.1 in
-    rw (p.1, p.2) (tells-unbuilt c.args.elf.now c.in_ok-image.image _ nine c.in_err-code.ensures.unbuilt)
+    rw (p.1, p.2) (tells-unbuilt c.args.elf.now image _ nine c.in_err-code.ensures.unbuilt)
 
-pub returns-in_err-check_code-clause-refused : goal.returns-in_err-check_code-clause-refused
-returns-in_err-check_code-clause-refused c =
+pub returns-in_err-nests-clause-refused : goal.returns-in_err-nests-clause-refused
+returns-in_err-nests-clause-refused c =
     let e = c.plain-profile.ensures in
     let plain : IsPlain c.plain-profile.result = record {
       memory = e.memory;
@@ -58,16 +61,17 @@ returns-in_err-check_code-clause-refused c =
       cycles = e.cycles;
       regions = e.regions;
     } in
-    let free = free-read c.args.elf.now c.in_ok-image.image c.requires c.in_ok-image.ensures.sound c.in_ok-image.ensures.image in
-    let apart = no-clash c.in_ok-image.image c.plain-profile.result plain
-    (finds-none (IsClash c.in_ok-image.image c.plain-profile.result) c.clash_place.result c.in_default.not-Some c.clash_place.ensures) in
-    let nine = free-apart c.args.elf.now c.in_ok-image.image free apart in
-    let ten = free-built c.args.elf.now c.in_ok-image.image nine c.in_ok-code.ensures.code.built in
-    let p = err_from_is_err_and c.from_residual-in_err-check_code.result c.from_residual-in_err-check_code.ensures.1 in
-    rw (p.1, p.2) (tells-code c.args.elf.now c.in_ok-image.image _ ten c.in_err-check_code.ensures.bad)
+    let image = c.in_ok-image.image in
+    let free = free-read c.args.elf.now image c.requires c.in_ok-image.ensures.sound c.in_ok-image.ensures.image in
+    let apart = no-clash image c.plain-profile.result plain
+    (finds-none (IsClash image c.plain-profile.result) c.clash_place.result c.in_default.not-Some c.clash_place.ensures) in
+    let nine = free-apart c.args.elf.now image free apart in
+    let ten = free-built c.args.elf.now image nine c.in_ok-code.ensures.code.followed in
+    let p = err_from_is_err_and c.from_residual-in_err-nests.result c.from_residual-in_err-nests.ensures.1 in
+    rw (p.1, p.2) (tells-code c.args.elf.now image _ ten c.in_err-nests.ensures.bad)
 
-pub returns-in_err-bound-clause-refused : goal.returns-in_err-bound-clause-refused
-returns-in_err-bound-clause-refused c =
+pub returns-in_err-check_return-clause-refused : goal.returns-in_err-check_return-clause-refused
+returns-in_err-check_return-clause-refused c =
     let e = c.plain-profile.ensures in
     let plain : IsPlain c.plain-profile.result = record {
       memory = e.memory;
@@ -78,14 +82,42 @@ returns-in_err-bound-clause-refused c =
       cycles = e.cycles;
       regions = e.regions;
     } in
-    let free = free-read c.args.elf.now c.in_ok-image.image c.requires c.in_ok-image.ensures.sound c.in_ok-image.ensures.image in
-    let apart = no-clash c.in_ok-image.image c.plain-profile.result plain
-    (finds-none (IsClash c.in_ok-image.image c.plain-profile.result) c.clash_place.result c.in_default.not-Some c.clash_place.ensures) in
-    let nine = free-apart c.args.elf.now c.in_ok-image.image free apart in
-    let ten = free-built c.args.elf.now c.in_ok-image.image nine c.in_ok-code.ensures.code.built in
-    let most = free-code c.args.elf.now c.in_ok-image.image ten c.in_ok-check_code.ensures.faultless in
-    let p = err_from_is_err_and c.from_residual-in_err-bound.result c.from_residual-in_err-bound.ensures.1 in
-    rw (p.1, p.2) (tells-never c.args.elf.now c.in_ok-image.image _ most c.in_err-bound.ensures.never)
+    let image = c.in_ok-image.image in
+    let free = free-read c.args.elf.now image c.requires c.in_ok-image.ensures.sound c.in_ok-image.ensures.image in
+    let apart = no-clash image c.plain-profile.result plain
+    (finds-none (IsClash image c.plain-profile.result) c.clash_place.result c.in_default.not-Some c.clash_place.ensures) in
+    let nine = free-apart c.args.elf.now image free apart in
+    let ten = free-built c.args.elf.now image nine c.in_ok-code.ensures.code.followed in
+    let loops = c.in_ok-nests.ensures.loops in
+    let faultless = c.in_ok-nests.ensures.faultless in
+    let eighteen = free-code c.args.elf.now image ten (code-faultless image loops.first faultless loops.nest) in
+    let p = err_from_is_err_and c.from_residual-in_err-check_return.result c.from_residual-in_err-check_return.ensures.1 in
+    rw (p.1, p.2) (tells-never c.args.elf.now image _ eighteen c.in_err-check_return.ensures.never)
+
+pub returns-in_err-certificate-clause-refused : goal.returns-in_err-certificate-clause-refused
+returns-in_err-certificate-clause-refused c =
+    let e = c.plain-profile.ensures in
+    let plain : IsPlain c.plain-profile.result = record {
+      memory = e.memory;
+      store = e.store;
+      stack_top = e.stack_top;
+      stack_size = e.stack_size;
+      pointer = e.gp;
+      cycles = e.cycles;
+      regions = e.regions;
+    } in
+    let image = c.in_ok-image.image in
+    let free = free-read c.args.elf.now image c.requires c.in_ok-image.ensures.sound c.in_ok-image.ensures.image in
+    let apart = no-clash image c.plain-profile.result plain
+    (finds-none (IsClash image c.plain-profile.result) c.clash_place.result c.in_default.not-Some c.clash_place.ensures) in
+    let nine = free-apart c.args.elf.now image free apart in
+    let ten = free-built c.args.elf.now image nine c.in_ok-code.ensures.code.followed in
+    let loops = c.in_ok-nests.ensures.loops in
+    let faultless = c.in_ok-nests.ensures.faultless in
+    let eighteen = free-code c.args.elf.now image ten (code-faultless image loops.first faultless loops.nest) in
+    let nineteen = free-returning c.args.elf.now image eighteen (returns-not image c.in_ok-check_return.ensures.returns) in
+    let p = err_from_is_err_and c.from_residual-in_err-certificate.result c.from_residual-in_err-certificate.ensures.1 in
+    rw (p.1, p.2) (tells-large c.args.elf.now image c.plain-profile.result _ plain nineteen c.in_err-certificate.ensures.large)
 
 pub returns-clause-analysed : goal.returns-clause-analysed
 returns-clause-analysed c =
@@ -99,11 +131,15 @@ returns-clause-analysed c =
       cycles = e.cycles;
       regions = e.regions;
     } in
-    let free = free-read c.args.elf.now c.in_ok-image.image c.requires c.in_ok-image.ensures.sound c.in_ok-image.ensures.image in
-    let apart = no-clash c.in_ok-image.image c.plain-profile.result plain
-    (finds-none (IsClash c.in_ok-image.image c.plain-profile.result) c.clash_place.result c.in_default.not-Some c.clash_place.ensures) in
-    let nine = free-apart c.args.elf.now c.in_ok-image.image free apart in
-    let ten = free-built c.args.elf.now c.in_ok-image.image nine c.in_ok-code.ensures.code.built in
-    let most = free-code c.args.elf.now c.in_ok-image.image ten c.in_ok-check_code.ensures.faultless in
-    is-analysed c.args.elf.now c.in_ok-image.image c.plain-profile.result c.in_ok-bound.bound most c.in_ok-check_code.ensures.faultless
-    c.in_ok-code.ensures.code.built plain c.in_ok-bound.ensures.bound
+    let image = c.in_ok-image.image in
+    let free = free-read c.args.elf.now image c.requires c.in_ok-image.ensures.sound c.in_ok-image.ensures.image in
+    let apart = no-clash image c.plain-profile.result plain
+    (finds-none (IsClash image c.plain-profile.result) c.clash_place.result c.in_default.not-Some c.clash_place.ensures) in
+    let nine = free-apart c.args.elf.now image free apart in
+    let ten = free-built c.args.elf.now image nine c.in_ok-code.ensures.code.followed in
+    let loops = c.in_ok-nests.ensures.loops in
+    let faultless = c.in_ok-nests.ensures.faultless in
+    let eighteen = free-code c.args.elf.now image ten (code-faultless image loops.first faultless loops.nest) in
+    let nineteen = free-returning c.args.elf.now image eighteen (returns-not image c.in_ok-check_return.ensures.returns) in
+    is-analysed c.args.elf.now image c.plain-profile.result c.in_ok-certificate.certificate nineteen faultless
+    c.in_ok-code.ensures.code.followed plain c.in_ok-certificate.ensures.certified

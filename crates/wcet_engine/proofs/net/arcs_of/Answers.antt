@@ -5,7 +5,8 @@ use Rattle.wcet_engine.specs.Arcs.{AreArcs, arcs_from, leaves, targets_of}
 use Rattle.wcet_engine.specs.Table.{steps_in}
 use Rattle.wcet_engine.specs.declared.table.Steps.{Steps}
 use Rattle.std.proofs.lemmas.Option.{slice_get_within}
-use Rattle.wcet_engine.proofs.NetLemmas.{entry_reached}
+use Rattle.wcet_engine.proofs.WayArcs.{entry_reached}
+use Rattle.wcet_engine.proofs.ArcCount.{IsCounted, counted-all, counted-more}
 use Rattle.wcet_engine.proofs.WayArcs.{arcs-more, row-read}
 use Rattle.wcet_engine.proofs.net.arcs_of.Goals as goal
 
@@ -32,7 +33,13 @@ loop-position-preserved c =
     c.number_of-in-loop-position.ensures
     ∙ ap (λ (leaving : Bool). c.loop-position.arcs.items ++ arcs_from (position + 1) (targets_of (steps_in (get_or table position none)) leaving))
     c.leaves.ensures in
-    subst (λ (arcs : List NetArc). AreArcs reached table c.args.entry (position + 1) arcs) (sym added)
-    (arcs-more reached table c.args.entry position one (get_or table position none) c.loop-position.arcs.items
-    (row-read reached table position one none c.requires.table c.loop-position-test.true c.index-reached-position.is)
-    c.loop-position.invariant)
+    let row = row-read reached table position one none c.requires.table c.loop-position-test.true c.index-reached-position.is in
+    subst (λ (arcs : List NetArc). AreArcs reached table c.args.entry (position + 1) arcs × IsCounted reached (position + 1) arcs) (sym added) (
+      arcs-more reached table c.args.entry position one (get_or table position none) c.loop-position.arcs.items row c.loop-position.invariant.0,
+      counted-more reached table position one (get_or table position none) c.loop-position.arcs.items c.requires.table row c.loop-position-test.true
+          (sym c.index-reached-position.is) c.loop-position.invariant.1,
+    )
+
+pub returns-clause-few : goal.returns-clause-few
+returns-clause-few c =
+    counted-all c.args.reached.now c.loop-position.position c.loop-position.arcs.items (omega arith) (omega arith) c.loop-position.invariant.1

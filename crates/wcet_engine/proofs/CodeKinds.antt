@@ -1,0 +1,162 @@
+-- Which faults an address can hold, and the first fault of the code and its loops.
+use Rattle.std.proofs.Common.{◌≡◌, ℕ, ◌+◌, ◌<◌, Bool, true, false, cond, List, Option, Some, None, refl, sym, ap, subst, ◌∙◌, arith}
+use Rattle.elf_mips.specs.declared.image.Image.{Image}
+use Rattle.elf_mips.specs.Segments.{code_at, is_writable_word}
+use Rattle.loop_nest.specs.Nests.{IsNest, TellsKind, TellsFault as TellsLoops}
+use Rattle.loop_nest.specs.declared.nest.Loop.{Loop}
+use Rattle.loop_nest.proofs.HeaderRank.{ranks-reducible}
+use Rattle.loop_nest.proofs.NestLaws.{nest-bounded}
+use Rattle.mips_decode.specs.declared.instr.Instr.{Instr}
+use Rattle.mips_decode.specs.Step.{Fetched, Found, Missing, fetched}
+use Rattle.net_model.specs.declared.unit.CodeKind.{CodeKind}
+use Rattle.net_model.specs.declared.unit.CodeKind.TheVariants as code
+use Rattle.net_model.specs.declared.unit.Content.{Content}
+use Rattle.net_model.specs.declared.unit.Content.TheVariants.{Unit as Stands, Fault}
+use Rattle.net_model.specs.Faults.{HasNoFault, IsFirstFault, Offends, rank as code_rank}
+use Rattle.net_model.specs.Units.{Word, Holds, Lacks, content_at, content_of, is_transfer, known, with_slot, word_at}
+use Rattle.wcet_engine.specs.Code.{IsCodeRefusal, TellsCode}
+use Rattle.wcet_engine.specs.Faults.{IsCodeFault, refused_by}
+use Rattle.unit_graph.specs.Graphs.{TellsFault as TellsWords}
+use Rattle.unit_graph.specs.declared.fault.CodeFault.{CodeFault}
+use Rattle.unit_graph.specs.declared.fault.CodeFault.TheVariants.{Bad, Memory}
+use Rattle.wcet_engine.specs.Refusals.{kind_of_code}
+
+
+-- An address never holds a fault of the loops.
+abbrev IsOfWord : CodeKind → Type 0
+IsOfWord code.Irreducible = ⊥
+IsOfWord code.NoBound = ⊥
+IsOfWord kind = Unit {0}
+
+lacks-by : (b : Bool) (found : Fetched) (kind : CodeKind) → cond b (Lacks code.WritableCode) (known found) ≡ Lacks kind → IsOfWord kind
+lacks-by true found kind e = let same : code.WritableCode ≡ kind = cc in subst IsOfWord same tt
+lacks-by false (Found instr) kind e = absurd cc
+lacks-by false (Missing why) kind e = let same : code.UnknownWord ≡ kind = cc in subst IsOfWord same tt
+
+lacks-kind : (image : Image) (address : ℕ) (kind : CodeKind) → word_at image address ≡ Lacks kind → IsOfWord kind
+lacks-kind image address kind e = lacks-by (is_writable_word image.segments address) (fetched (code_at image.segments) address) kind e
+
+slot-by : (b : Bool) (instr slot : Instr) (address place : ℕ) (kind : CodeKind) →
+    cond b (Fault code.TransferInSlot address) (Stands (record { instr = instr; slot = Some slot })) ≡ Fault kind place → IsOfWord kind
+slot-by true instr slot address place kind e = let same : code.TransferInSlot ≡ kind = cc in subst IsOfWord same tt
+slot-by false instr slot address place kind e = absurd cc
+
+slot-kind : (image : Image) (instr : Instr) (address place : ℕ) (kind : CodeKind) (word : Word) → word_at image address ≡ word →
+    with_slot instr address word ≡ Fault kind place → IsOfWord kind
+slot-kind image instr address place kind (Lacks lack) there e =
+    let same : lack ≡ kind = cc in subst IsOfWord same (lacks-kind image address lack there)
+slot-kind image instr address place kind (Holds slot) there e = slot-by (is_transfer slot) instr slot address place kind e
+
+instr-by : (b : Bool) (image : Image) (instr : Instr) (address place : ℕ) (kind : CodeKind) →
+    cond b (with_slot instr (address + 4) (word_at image (address + 4))) (Stands (record { instr = instr; slot = None })) ≡ Fault kind place →
+    IsOfWord kind
+instr-by true image instr address place kind e = slot-kind image instr (address + 4) place kind (word_at image (address + 4)) refl e
+instr-by false image instr address place kind e = absurd cc
+
+content-kind : (image : Image) (address place : ℕ) (kind : CodeKind) (word : Word) → word_at image address ≡ word →
+    content_of image address word ≡ Fault kind place → IsOfWord kind
+content-kind image address place kind (Lacks lack) there e =
+    let same : lack ≡ kind = cc in subst IsOfWord same (lacks-kind image address lack there)
+content-kind image address place kind (Holds instr) there e = instr-by (is_transfer instr) image instr address place kind e
+
+offence-kind : (image : Image) (entry : ℕ) (kind : CodeKind) (place : ℕ) → Offends image entry kind place → IsOfWord kind
+offence-kind image entry kind place offends =
+    content-kind image offends.address place kind (word_at image offends.address) refl offends.faulty
+
+word-rank : (kind : CodeKind) → IsOfWord kind → code_rank kind < 6
+word-rank code.WritableCode is = omega arith
+word-rank code.UnknownWord is = omega arith
+word-rank code.TransferInSlot is = omega arith
+word-rank code.UnknownTarget is = omega arith
+word-rank code.LinkRegister is = omega arith
+word-rank code.Recursion is = omega arith
+word-rank code.Irreducible is = absurd is
+word-rank code.NoBound is = absurd is
+
+-- Faults that addresses hold are faults of the code, and those of lower ranks are such.
+offence-fault : (image : Image) (kind : CodeKind) (place : ℕ) → Offends image image.entry kind place → IsCodeFault kind image place
+offence-fault image code.WritableCode place offends = offends
+offence-fault image code.UnknownWord place offends = offends
+offence-fault image code.TransferInSlot place offends = offends
+offence-fault image code.UnknownTarget place offends = offends
+offence-fault image code.LinkRegister place offends = offends
+offence-fault image code.Recursion place offends = offends
+offence-fault image code.Irreducible place offends = absurd (offence-kind image image.entry code.Irreducible place offends)
+offence-fault image code.NoBound place offends = absurd (offence-kind image image.entry code.NoBound place offends)
+
+fault-offence : (image : Image) (kind : CodeKind) (place : ℕ) → code_rank kind < 6 → IsCodeFault kind image place → Offends image image.entry kind place
+fault-offence image code.WritableCode place low fault = fault
+fault-offence image code.UnknownWord place low fault = fault
+fault-offence image code.TransferInSlot place low fault = fault
+fault-offence image code.UnknownTarget place low fault = fault
+fault-offence image code.LinkRegister place low fault = fault
+fault-offence image code.Recursion place low fault = fault
+fault-offence image code.Irreducible place low fault = absurd (omega (arith, low))
+fault-offence image code.NoBound place low fault = absurd (omega (arith, low))
+
+-- The first fault that an address holds.
+pub word-refusal : (image : Image) (kind : CodeKind) (place : ℕ) → IsFirstFault image image.entry kind place →
+    IsCodeRefusal image (kind_of_code kind) place
+word-refusal image kind place first =
+    let low = word-rank kind (offence-kind image image.entry kind place first.offends) in
+    record {
+      fault = kind;
+      same = refl;
+      offends = offence-fault image kind place first.offends;
+      first = λ other spot less fault. first.first other spot less (fault-offence image other spot (omega (arith, less, low)) fault);
+      least = λ lesser less fault. first.least lesser less (fault-offence image kind lesser low fault);
+    }
+
+-- The first fault of the loops, where no address holds one.
+pub loop-refusal : (image : Image) (kind : CodeKind) (place : ℕ) → HasNoFault image image.entry → TellsKind image image.entry kind place →
+    IsCodeRefusal image (kind_of_code kind) place
+loop-refusal image code.Irreducible place faultless told = record {
+  fault = code.Irreducible;
+  same = refl;
+  offends = told.here;
+  first = λ other spot less fault. faultless other spot (fault-offence image other spot less fault);
+  least = told.least;
+}
+loop-refusal image code.NoBound place faultless told = record {
+  fault = code.NoBound;
+  same = refl;
+  offends = told.here;
+  first = λ other spot less fault. earlier other spot less fault;
+  least = told.least;
+} where
+  earlier : (other : CodeKind) (spot : ℕ) → code_rank other < 7 → IsCodeFault other image spot → ⊥
+  earlier code.Irreducible spot less fault = told.accepted spot fault
+  earlier code.NoBound spot less fault = absurd (omega (arith, less))
+  earlier code.WritableCode spot less fault = faultless code.WritableCode spot fault
+  earlier code.UnknownWord spot less fault = faultless code.UnknownWord spot fault
+  earlier code.TransferInSlot spot less fault = faultless code.TransferInSlot spot fault
+  earlier code.UnknownTarget spot less fault = faultless code.UnknownTarget spot fault
+  earlier code.LinkRegister spot less fault = faultless code.LinkRegister spot fault
+  earlier code.Recursion spot less fault = faultless code.Recursion spot fault
+loop-refusal image code.WritableCode place faultless told = absurd told
+loop-refusal image code.UnknownWord place faultless told = absurd told
+loop-refusal image code.TransferInSlot place faultless told = absurd told
+loop-refusal image code.UnknownTarget place faultless told = absurd told
+loop-refusal image code.LinkRegister place faultless told = absurd told
+loop-refusal image code.Recursion place faultless told = absurd told
+
+-- Code without a fault whose loops are known has none of its kinds.
+pub code-faultless : (image : Image) (loops : List Loop) → HasNoFault image image.entry → IsNest image image.entry loops →
+    (kind : CodeKind) (place : ℕ) → IsCodeFault kind image place → ⊥
+code-faultless image loops faultless nest code.Irreducible place fault = ranks-reducible image image.entry nest.ranks place fault
+code-faultless image loops faultless nest code.NoBound place fault = nest-bounded image image.entry loops nest place fault
+code-faultless image loops faultless nest code.WritableCode place fault = faultless code.WritableCode place fault
+code-faultless image loops faultless nest code.UnknownWord place fault = faultless code.UnknownWord place fault
+code-faultless image loops faultless nest code.TransferInSlot place fault = faultless code.TransferInSlot place fault
+code-faultless image loops faultless nest code.UnknownTarget place fault = faultless code.UnknownTarget place fault
+code-faultless image loops faultless nest code.LinkRegister place fault = faultless code.LinkRegister place fault
+code-faultless image loops faultless nest code.Recursion place fault = faultless code.Recursion place fault
+
+-- What the errors of both stages tell.
+pub word-tells : (image : Image) (fault : CodeFault) → TellsWords image image.entry fault → TellsCode image (refused_by fault)
+word-tells image (Bad kind address) told = word-refusal image kind address told
+word-tells image Memory told = tt
+
+pub loop-tells : (image : Image) (fault : CodeFault) → HasNoFault image image.entry → TellsLoops image image.entry fault → TellsCode image (refused_by fault)
+loop-tells image (Bad kind address) faultless told = loop-refusal image kind address faultless told
+loop-tells image Memory faultless told = tt

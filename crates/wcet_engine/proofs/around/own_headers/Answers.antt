@@ -1,0 +1,36 @@
+-- One header more has its own loop.
+use Rattle.std.proofs.Common.{ℕ, length, get_or, Contains, refl, arith}
+use Rattle.std.proofs.lemmas.List.Elements.{Contains-get_or}
+use Rattle.std.proofs.lemmas.Option.{slice_get_within, slice_get-get_or}
+use Rattle.wcet_engine.proofs.AroundLists.{header-among}
+use Rattle.wcet_engine.proofs.ScopeLists.{scopes-more}
+use Rattle.wcet_engine.proofs.around.own_headers.Goals as goal
+
+pub position_of-place-requires-clause-there : goal.position_of-place-requires-clause-there
+position_of-place-requires-clause-there c =
+    let (image, entry, contents, nest) = c.requires.function in
+    let loops = c.args.loops.now in
+    header-among image entry c.args.reached.now loops contents nest (get_or loops c.loop-position.position c.index-loops-position.result)
+    (Contains-get_or loops c.loop-position.position c.index-loops-position.result c.loop-position-test.true)
+
+pub offset_bounds-numbers-place : goal.offset_bounds-numbers-place
+offset_bounds-numbers-place c =
+    let at = c.position_of-place.ensures in
+    omega (arith, slice_get_within c.args.reached.now c.position_of-place.result at.one at.there, c.requires.few)
+
+pub bounds-numbers-place : goal.bounds-numbers-place
+bounds-numbers-place c =
+    let at = c.position_of-place.ensures in
+    omega (arith, slice_get_within c.args.reached.now c.position_of-place.result at.one at.there, c.loop-position.invariant.count)
+
+pub loop-position-preserved : goal.loop-position-preserved
+loop-position-preserved c =
+    let (image, entry, contents, nest) = c.requires.function in
+    let loops = c.args.loops.now in
+    let at = c.position_of-place.ensures in
+    let position = c.loop-position.position in
+    let one = get_or loops position c.index-loops-position.result in
+    scopes-more c.args.reached.now loops position c.loop-position.numbers one c.position_of-place.result c.number_of.result contents.rising
+    (slice_get-get_or loops position c.index-loops-position.result c.loop-position-test.true) at c.number_of.ensures
+    (omega (arith, slice_get_within c.args.reached.now c.position_of-place.result at.one at.there, c.loop-position.invariant.count))
+    c.loop-position.invariant

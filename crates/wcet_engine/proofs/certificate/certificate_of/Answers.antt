@@ -1,0 +1,19 @@
+-- The leaf and the counts are a certificate.
+use Rattle.std.proofs.Common.{refl, ap, ◌∙◌, List, ◌∷◌, ◌++◌, []}
+use Rattle.ipet_program.specs.declared.certificate.Node.{Node}
+use Rattle.ipet_program.specs.declared.certificate.Node.TheVariants.{End}
+use Rattle.wcet_engine.proofs.Solved.{bound-low, solved}
+use Rattle.wcet_engine.proofs.certificate.certificate_of.Goals as goal
+
+pub bound_of-bound-requires : goal.bound_of-bound-requires
+bound_of-bound-requires c = (
+  c.args.program.now,
+  c.in_ok-leaf.ensures,
+  bound-low c.args.net.now c.requires.program.0 c.args.program.now c.in_ok-leaf.leaf c.requires.nested c.requires.program.1 c.in_ok-leaf.ensures,
+)
+
+pub returns-clause-valid : goal.returns-clause-valid
+returns-clause-valid c =
+    solved c.args.program.now c.in_ok-leaf.leaf c.in_ok-counts.counts c.bound_of-bound.result _ c.requires.checkable c.in_ok-leaf.ensures
+    c.in_ok-counts.ensures (c.bound_of-bound.ensures c.args.program.now c.in_ok-leaf.ensures) refl refl refl
+    (c.in_ok-push.ensures.ok ∙ ap (λ (nodes : List Node). nodes ++ End c.in_ok-leaf.leaf ∷ []) c.new-tree.ensures)

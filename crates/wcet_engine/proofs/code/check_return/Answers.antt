@@ -1,0 +1,24 @@
+-- One unit more doesn't return, and none does.
+use Rattle.std.proofs.Common.{◌≡◌, ◌≤◌, false, length, refl, ap, sym, subst, ◌∙◌, List, All, arith}
+use Rattle.std.proofs.lemmas.List.{take_all}
+use Rattle.std.proofs.lemmas.List.Elements.{All-more}
+use Rattle.unit_graph.specs.declared.reached.Reached.{Reached}
+use Rattle.wcet_engine.specs.Arcs.{leaves}
+use Rattle.wcet_engine.proofs.Lefts.{no-returns}
+use Rattle.wcet_engine.proofs.code.check_return.Goals as goal
+
+pub loop-one-preserved : goal.loop-one-preserved
+loop-one-preserved c =
+    All-more (λ (one : Reached). leaves one.content ≡ false) c.args.reached.now c.loop-one.one-index c.one-item.result c.loop-one-test.true c.loop-one.invariant
+    (ap (λ (one : Reached). leaves one.content) (sym c.one-item.is) ∙ sym c.leaves.ensures ∙ c.if-leaves.false)
+
+pub returns-clause-never : goal.returns-clause-never
+returns-clause-never c =
+    let reached = c.args.reached.now in
+    let past : length reached ≤ c.loop-one.one-index = omega arith in
+    rw c.at.ensures (
+      refl,
+      refl,
+      no-returns c.args.image.now reached c.requires
+          (subst (All (λ (one : Reached). leaves one.content ≡ false)) (take_all c.loop-one.one-index reached past) c.loop-one.invariant),
+    )
