@@ -6,3 +6,7 @@ pub mod Faults
 pub mod Ways
 pub mod Net
 pub mod Loops
+pub mod Targets
+pub mod Flow
+pub mod Functions
+pub mod Offences
