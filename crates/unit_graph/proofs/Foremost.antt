@@ -50,7 +50,7 @@ IsAmong-more (Some first) (Some result) reached one among (inl e) =
 IsAmong-more first (Some result) reached one among (inr here) = (one, Contains-push reached one, here)
 
 -- An item that a mapped list's item comes from.
-preimage : {X : Type 0} (f : X → ℕ) (xs : List X) (y : ℕ) → Contains (map f xs) y →
+pub preimage : {X : Type 0} (f : X → ℕ) (xs : List X) (y : ℕ) → Contains (map f xs) y →
     (x : X) × Contains xs x × (f x ≡ y)
 preimage f [] y (k, inside, e) = absurd (omega arith)
 preimage f (x ∷ xs) y (zero, inside, e) = (x, (0, omega arith, refl), e)

@@ -4,4 +4,5 @@ pub mod Firsts
 pub mod Graphs
 pub mod Nodes
 pub mod Search
+pub mod Targets
 pub mod Ways

@@ -8,6 +8,7 @@ mod graph;
 mod node;
 mod reached;
 mod search;
+mod targets;
 #[cfg(test)]
 mod tests;
 mod ways;

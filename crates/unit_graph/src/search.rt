@@ -1,6 +1,6 @@
 //! The search for the addresses that a function reaches.
 
-ghost use Rattle.std.specs.Prelude.{◌≡◌, ◌+◌, ◌<◌, ◌^◌, ◌∷◌, [], IfOk, OnOk};
+ghost use Rattle.std.specs.Prelude.{◌≡◌, Contains, IfOk, OnOk};
 ghost use Rattle.net_model.specs.Units.{content_at};
 ghost use Rattle.unit_graph.specs.Graphs.{IsSetOf};
 ghost use Rattle.unit_graph.specs.Search.{AreAddresses, Sees, onward_of};
@@ -14,8 +14,8 @@ use std::alloc::{AllocError, Global};
 use std::collections::BTreeSet;
 
 /// Sees an address, and lets it wait if it wasn't seen before.
-fn see(address: u32, seen: &mut BTreeSet<u32>, waiting: &mut Vec<u32>) -> Result<(), AllocError>
-    ensures { OnOk result (Sees (address ∷ []) seen.old.keys waiting.old.items seen.new.keys waiting.new.items) }
+pub fn see(address: u32, seen: &mut BTreeSet<u32>, waiting: &mut Vec<u32>) -> Result<(), AllocError>
+    ensures { OnOk result (Sees (λ x. address ≡ x) seen.old.keys waiting.old.items seen.new.keys waiting.new.items) }
 {
     if seen.insert(address)? {
         waiting.push(address)?;
@@ -24,12 +24,15 @@ fn see(address: u32, seen: &mut BTreeSet<u32>, waiting: &mut Vec<u32>) -> Result
 }
 
 /// Sees the addresses of these ways, and lets those wait that weren't seen before.
-fn see_ways(ways: Ways, seen: &mut BTreeSet<u32>, waiting: &mut Vec<u32>) -> Result<(), AllocError>
-    ensures { OnOk result (Sees (listed ways) seen.old.keys waiting.old.items seen.new.keys waiting.new.items) }
+pub fn see_ways(ways: Ways, seen: &mut BTreeSet<u32>, waiting: &mut Vec<u32>) -> Result<(), AllocError>
+    ensures { OnOk result (Sees (Contains (listed ways)) seen.old.keys waiting.old.items seen.new.keys waiting.new.items) }
 {
     match ways {
         Ways::Nowhere => Ok(()),
-        Ways::One(address) => see(address, seen, waiting),
+        Ways::One(address) => {
+            see(address, seen, waiting)?;
+            Ok(())
+        }
         Ways::Two(lesser, greater) => {
             see(lesser, seen, waiting)?;
             see(greater, seen, waiting)?;
