@@ -8,7 +8,7 @@ use Rattle.std.proofs.lemmas.List.Sorted.{All-permutation, Contains-permutation}
 use Rattle.std.proofs.lemmas.List.Elements.{All-contains, All-contains_itself, All-weaker, All-filter, Contains-append_right, filter_passes}
 use Rattle.elf_mips.specs.declared.image.Image.{Image}
 use Rattle.elf_mips.specs.declared.mark.Mark.{Mark}
-use Rattle.net_model.specs.Targets.{names_target, targets_at}
+use Rattle.net_model.specs.Targets.{is_none, names_target, targets_at}
 use Rattle.unit_graph.specs.Targets.{AreTargets}
 use Rattle.unit_graph.proofs.Foremost.{preimage}
 
@@ -127,3 +127,26 @@ named_found image targets found address target are at h =
     (All-contains (λ (mark : Mark). mark.address ≡ address → Contains found mark) targets is.mark at.whole
     (All-contains (λ (mark : Mark). mark.kind ≡ 2 → Contains targets mark) image.marks is.mark are.whole is.listed is.kind)
     is.place))
+
+-- None is found where none is named.
+pub none_found : (image : Image) (targets found : List Mark) (address : ℕ) → AreTargets image targets →
+    AreAt targets address found → (length found == 0) ≡ is_none (targets_at image address)
+none_found image targets found address are at =
+    by_case found (targets_at image address)
+    (λ target h. found_named image targets found address target are at h)
+    (λ target h. named_found image targets found address target are at h)
+  where
+    by_case : (marks : List Mark) (listed : List ℕ) →
+        ((target : ℕ) → Contains (map (λ (mark : Mark). mark.x) marks) target → Contains listed target) →
+        ((target : ℕ) → Contains listed target → Contains (map (λ (mark : Mark). mark.x) marks) target) →
+        (length marks == 0) ≡ is_none listed
+    by_case [] [] into back = refl
+    by_case [] (target ∷ listed) into back =
+        let (k, inside, e) = back target (0, omega arith, refl) in absurd (omega arith)
+    by_case (mark ∷ marks) [] into back =
+        let (k, inside, e) = into mark.x (0, omega arith, refl) in absurd (omega arith)
+    by_case (mark ∷ marks) (target ∷ listed) into back = (λ (b : Bool) (d : (b ≡ true) → length (mark ∷ marks) ≡ 0). not_true b d) (length (mark ∷ marks) == 0) (Decides-eqb (length (mark ∷ marks)) 0).0
+      where
+        not_true : (b : Bool) → (b ≡ true → length (mark ∷ marks) ≡ 0) → b ≡ false
+        not_true true d = let e = d refl in absurd (omega arith)
+        not_true false d = refl

@@ -3,6 +3,7 @@ pub mod Contents
 pub mod Firsts
 pub mod Graphs
 pub mod Nodes
+pub mod Rows
 pub mod Search
 pub mod Targets
 pub mod Ways

@@ -1,14 +1,18 @@
 //! The graph of a program's functions: which units are reached, and how each goes on.
 #![tactic(auto)]
 
+
 mod content;
 mod fault;
 mod first;
 mod graph;
+mod linked;
 mod node;
 mod reached;
+mod rows;
 mod search;
 mod targets;
+mod transfers;
 #[cfg(test)]
 mod tests;
 mod ways;

@@ -35,7 +35,7 @@ ghost use Rattle.unit_graph.specs.declared.node.Unit.{Unit};
 ghost use Rattle.unit_graph.specs.declared.reached.Reached.{Reached};
 
 /// The list of the addresses.
-fn list_of(alloc: Global, ways: Ways) -> Result<List<u32>, AllocError>
+pub fn list_of(alloc: Global, ways: Ways) -> Result<List<u32>, AllocError>
     ensures { IfOk result (λ list. list ≡ listed ways) }
 {
     let mut list = List::new(alloc);

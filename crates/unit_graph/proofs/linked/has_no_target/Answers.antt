@@ -1,0 +1,13 @@
+use Rattle.std.proofs.Common.{◌∙◌, ◌==◌, ap, length}
+use Rattle.net_model.specs.Targets.{targets_at}
+use Rattle.unit_graph.proofs.Naming.{AreAt, none_found}
+use Rattle.unit_graph.proofs.linked.has_no_target.Goals as goal
+
+pub returns : goal.returns
+returns c =
+    let at : AreAt c.args.targets.now c.args.address c.targets_at.result.now = record {
+      within = c.targets_at.ensures.within;
+      sound = c.targets_at.ensures.sound;
+      whole = c.targets_at.ensures.whole;
+    } in
+    c.is_empty.ensures ∙ none_found c.args.image.now c.args.targets.now c.targets_at.result.now c.args.address c.requires at
