@@ -47,6 +47,13 @@ abbrev pub MayLead : Row → ℕ → Type 0
 MayLead row later =
     Contains row.onward later ⊎ (Contains row.calls later ⊎ ((row.calls ≡ [] → ⊥) × (later ≡ row.address + 8)))
 
+-- The same of what stands at an address.
+abbrev pub MayLeadAt : Image → (address later : ℕ) → Type 0
+MayLeadAt image address later =
+    Contains (ways_of_content image (unit_at image address) address) later
+    ⊎ (Contains (calls_of_content image (unit_at image address) address) later
+    ⊎ ((callee : ℕ) × Contains (calls_of_content image (unit_at image address) address) callee × (later ≡ address + 8)))
+
 -- The rows of all addresses to which an entry may lead: none leads to an address without one.
 pub record AreRows (image : Image) (entry : ℕ) (rows : List Row) : Type 0 where
   pub rising : Rise rows

@@ -11,6 +11,7 @@ mod node;
 mod reached;
 mod rows;
 mod search;
+mod span;
 mod targets;
 mod transfers;
 #[cfg(test)]
