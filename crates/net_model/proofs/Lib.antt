@@ -1,4 +1,5 @@
 -- Laws of units: what a step of the machine does at one.
+pub mod Functions
 pub mod Contents
 pub mod Zero
 pub mod Ways

@@ -3,6 +3,7 @@ pub mod Contained
 pub mod Drawn
 pub mod FarSight
 pub mod Foremost
+pub mod Growing
 pub mod LowWords
 pub mod Naming
 pub mod PlainSearch

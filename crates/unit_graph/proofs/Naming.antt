@@ -11,6 +11,7 @@ use Rattle.elf_mips.specs.declared.mark.Mark.{Mark}
 use Rattle.net_model.specs.Targets.{is_none, names_target, targets_at}
 use Rattle.unit_graph.specs.Targets.{AreTargets}
 use Rattle.unit_graph.proofs.Foremost.{preimage}
+use Rattle.unit_graph.proofs.Ranging.{AreAt}
 
 tail : {X : Type 0} (y x : X) (xs : List X) → Contains xs x → Contains (y ∷ xs) x
 tail y x xs h = Contains-append_right (y ∷ []) xs x h
@@ -97,15 +98,9 @@ AreTargets-sorted image kept sorted e once rising =
           (All-contains_itself image.marks k d h) ((Decides-eqb (get_or image.marks k d).kind 2).1 two)));
     }
 
--- The records that stand at an address among the sorted ones.
-pub record AreAt (targets : List Mark) (address : ℕ) (found : List Mark) : Type 0 where
-  pub within : All (Contains targets) found
-  pub sound : All (λ (mark : Mark). mark.address ≡ address) found
-  pub whole : All (λ (mark : Mark). mark.address ≡ address → Contains found mark) targets
-
 -- They name the targets of the address.
 pub found_named : (image : Image) (targets found : List Mark) (address target : ℕ) → AreTargets image targets →
-    AreAt targets address found → Contains (map (λ (mark : Mark). mark.x) found) target → Contains (targets_at image address) target
+    AreAt (λ (mark : Mark). mark.address) targets address found → Contains (map (λ (mark : Mark). mark.x) found) target → Contains (targets_at image address) target
 found_named image targets found address target are at h =
     let from = preimage (λ (mark : Mark). mark.x) found target h in
     let one = All-contains (λ (mark : Mark). Contains image.marks mark × (mark.kind ≡ 2)) targets from.0 are.sound
@@ -119,7 +114,7 @@ found_named image targets found address target are at h =
     })
 
 pub named_found : (image : Image) (targets found : List Mark) (address target : ℕ) → AreTargets image targets →
-    AreAt targets address found → Contains (targets_at image address) target → Contains (map (λ (mark : Mark). mark.x) found) target
+    AreAt (λ (mark : Mark). mark.address) targets address found → Contains (targets_at image address) target → Contains (map (λ (mark : Mark). mark.x) found) target
 named_found image targets found address target are at h =
     let is = listed_named image address target h in
     subst (Contains (map (λ (mark : Mark). mark.x) found)) is.same
@@ -130,7 +125,7 @@ named_found image targets found address target are at h =
 
 -- None is found where none is named.
 pub none_found : (image : Image) (targets found : List Mark) (address : ℕ) → AreTargets image targets →
-    AreAt targets address found → (length found == 0) ≡ is_none (targets_at image address)
+    AreAt (λ (mark : Mark). mark.address) targets address found → (length found == 0) ≡ is_none (targets_at image address)
 none_found image targets found address are at =
     by_case found (targets_at image address)
     (λ target h. found_named image targets found address target are at h)

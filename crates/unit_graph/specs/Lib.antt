@@ -2,6 +2,7 @@
 pub mod Contents
 pub mod Firsts
 pub mod Graphs
+pub mod Inference
 pub mod Nodes
 pub mod Rows
 pub mod Search

@@ -6,6 +6,7 @@ mod content;
 mod fault;
 mod first;
 mod graph;
+mod inference;
 mod linked;
 mod node;
 mod reached;

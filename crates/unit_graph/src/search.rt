@@ -1,6 +1,6 @@
 //! The search for the addresses that a function reaches.
 
-ghost use Rattle.std.specs.Prelude.{◌≡◌, Contains, IfOk, OnOk, map};
+ghost use Rattle.std.specs.Prelude.{◌≡◌, ◌↔◌, Contains, IfOk, IsTrue, OnOk, map};
 ghost use Rattle.net_model.specs.Units.{content_at};
 ghost use Rattle.unit_graph.specs.Graphs.{IsSetOf};
 ghost use Rattle.unit_graph.specs.Search.{AreAddresses, Sees, onward_of};
@@ -46,6 +46,13 @@ pub fn items_of(alloc: Global, set: &BTreeSet<u32>) -> Result<Vec<u32>, AllocErr
     ensures { IfOk result (λ items. items.items ≡ set.now.keys) }
 {
     set.iter().copied().collect(alloc)
+}
+
+/// Whether an address is in a set.
+pub fn has(set: &BTreeSet<u32>, address: u32) -> bool
+    ensures { IsTrue result ↔ Contains set.now.keys address }
+{
+    set.contains(&address)
 }
 
 /// Sees these addresses, and lets those wait that weren't seen before.

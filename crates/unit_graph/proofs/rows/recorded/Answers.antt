@@ -1,7 +1,8 @@
 use Rattle.std.proofs.Common.{map, ◌∙◌}
 use Rattle.elf_mips.specs.declared.mark.Mark.{Mark}
 use Rattle.net_model.specs.Targets.{targets_at}
-use Rattle.unit_graph.proofs.Naming.{AreAt, found_named, named_found}
+use Rattle.unit_graph.proofs.Naming.{found_named, named_found}
+use Rattle.unit_graph.proofs.Ranging.{AreAt}
 use Rattle.unit_graph.proofs.Sets.{IsSetOf-seen}
 use Rattle.unit_graph.proofs.rows.recorded.Goals as goal
 
@@ -10,7 +11,7 @@ returns c =
     let image = c.args.image.now in
     let targets = c.args.targets.now in
     let found = c.targets_at.result.now in
-    let at : AreAt targets c.args.address found = record {
+    let at : AreAt (λ (mark : Mark). mark.address) targets c.args.address found = record {
       within = c.targets_at.ensures.within;
       sound = c.targets_at.ensures.sound;
       whole = c.targets_at.ensures.whole;

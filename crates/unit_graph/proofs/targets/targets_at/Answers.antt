@@ -2,8 +2,7 @@
 use Rattle.std.proofs.Common.{◌≡◌, ◌-◌, List, nat_le, nat_lt, rules, sym, subst, ◌∙◌, ap, take, arith}
 use Rattle.std.proofs.lemmas.List.Sorted.{IsPartitionPoint-from_clause, IsPartitionedBy-leb, IsPartitionedBy-ltb}
 use Rattle.elf_mips.specs.declared.mark.Mark.{Mark}
-use Rattle.unit_graph.proofs.Naming.{AreAt}
-use Rattle.unit_graph.proofs.Ranging.{IsSplit, from_to, part, part_at_address}
+use Rattle.unit_graph.proofs.Ranging.{AreAt, IsSplit, from_to, part, part_at_address}
 use Rattle.unit_graph.proofs.targets.targets_at.Goals as goal
 
 nothing : Mark
@@ -43,12 +42,12 @@ most_later c =
 
 pub overflow_sub-to : goal.overflow_sub-to
 overflow_sub-to c =
-    from_to c.args.targets.now c.args.address c.partition_point-from.result c.partition_point-to.result nothing
+    from_to (λ (mark : Mark). mark.address) c.args.targets.now c.args.address c.partition_point-from.result c.partition_point-to.result nothing
     c.partition_point-from.ensures.bound (less c) (most c)
 
-found : (c : goal.After-found-1) → AreAt c.args.targets.now c.args.address c.split_at-2.result.0.now
+found : (c : goal.After-found-1) → AreAt (λ (mark : Mark). mark.address) c.args.targets.now c.args.address c.split_at-2.result.0.now
 found c =
-    part_at_address c.args.targets.now c.args.address c.partition_point-from.result c.partition_point-to.result
+    part_at_address (λ (mark : Mark). mark.address) c.args.targets.now c.args.address c.partition_point-from.result c.partition_point-to.result
     c.split_at-2.result.0.now
     c.partition_point-to.ensures.bound c.partition_point-from.ensures.bound (less_later c) (most_later c)
     (c.split_at-2.ensures.front ∙ ap (take (c.partition_point-to.result - c.partition_point-from.result)) c.split_at.ensures.back)
