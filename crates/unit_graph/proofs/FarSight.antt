@@ -66,7 +66,7 @@ some_of : (xs : List ℕ) → (xs ≡ [] → ⊥) → (x : ℕ) × Contains xs x
 some_of [] some = absurd (some refl)
 some_of (x ∷ xs) some = (x, (0, omega arith, refl))
 
-not_empty : (xs : List ℕ) (x : ℕ) → Contains xs x → xs ≡ [] → ⊥
+pub not_empty : (xs : List ℕ) (x : ℕ) → Contains xs x → xs ≡ [] → ⊥
 not_empty [] x (k, inside, e) f = omega arith
 not_empty (y ∷ xs) x h f = cc
 
@@ -100,3 +100,7 @@ far_back image row later is may =
     by (inr (inl r)) = inr (inl (All-contains (Contains row.calls) (calls_of_content image row.content row.address) later is.calls.whole r))
     by (inr (inr (callee, there, e))) =
         inr (inr (not_empty row.calls callee (All-contains (Contains row.calls) (calls_of_content image row.content row.address) callee is.calls.whole there), e))
+
+pub low_some : (image : Image) (row : Row) → IsRow image row → 0 < length row.calls → row.address + 8 < 2 ^ 32
+low_some image row is some =
+    low_calls image row is (λ e. omega (arith, ap (λ (xs : List ℕ). length xs) e))

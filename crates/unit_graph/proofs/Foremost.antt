@@ -120,10 +120,10 @@ All-IsFaultless reached sound follow =
     λ k d l. faultless (get_or reached k d).content (get_or reached k d).address (sound k d l) (follow k d l)
 
 -- One more item.
-pub one_more : (xs : List Reached) (i : ℕ) (one : Reached) → i < length xs → one ≡ get_or xs i one →
+pub one_more : {X : Type 0} (xs : List X) (i : ℕ) (one : X) → i < length xs → one ≡ get_or xs i one →
     take (i + 1) xs ≡ take i xs ++ one ∷ []
-one_more xs i one l e =
-    take_more xs i one l ∙ ap (λ (r : Reached). take i xs ++ r ∷ []) (sym e)
+one_more {X} xs i one l e =
+    take_more xs i one l ∙ ap (λ (r : X). take i xs ++ r ∷ []) (sym e)
 
 pub Follows-more : (first result : Option Offence) (reached : List Reached) (one : Reached) →
     All (λ (r : Reached). Follows first r.content) reached →

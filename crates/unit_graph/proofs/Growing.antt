@@ -1,5 +1,5 @@
 -- How more and more units are seen to return.
-use Rattle.std.proofs.Common.{◌≡◌, ℕ, ◌+◌, ◌<◌, List, [], ◌∷◌, ◌++◌, All, Option, Some, None, refl, sym, subst, arith, inl, inr, ◌⊎◌}
+use Rattle.std.proofs.Common.{◌≡◌, ℕ, ◌+◌, ◌-◌, ◌*◌, ◌<◌, ◌≤◌, ◌^◌, length, length-append, ap, ◌∙◌, List, [], ◌∷◌, ◌++◌, All, Option, Some, None, refl, sym, subst, arith, inl, inr, ◌⊎◌}
 use Rattle.std.specs.Prelude.{Contains}
 use Rattle.std.proofs.lemmas.List.Elements.{All-contains, All-contains_itself, All-nil, All-push, All-weaker, Contains-append_left, Contains-push}
 use Rattle.elf_mips.specs.declared.image.Image.{Image}
@@ -7,6 +7,7 @@ use Rattle.net_model.specs.Functions.{CanReturn}
 use Rattle.unit_graph.specs.Inference.{CanAllReturn, CanReturnOr, Grows, Infers, IsMetBy, IsSound, IsTried}
 use Rattle.unit_graph.specs.Search.{IsWithin, Sees}
 use Rattle.unit_graph.specs.declared.inference.Rule.{Rule}
+use Rattle.unit_graph.proofs.Searching.{shrinks}
 
 pub Grows-none : (seen waiting : List ℕ) → Grows seen waiting seen waiting
 Grows-none seen waiting = record {
@@ -111,3 +112,12 @@ Infers-more rules rule seen waiting seen1 waiting1 seen2 waiting2 f g = record {
       (λ r h met. g.grows.kept r.then (h met)) rules f.there)
       (λ met. g.there (met_later rule.other seen seen1 f.grows.kept met));
 }
+
+-- Each turn takes a waiting address; each that comes in its place was not seen before.
+pub grows_shrinks : (address : ℕ) (seen waiting rest later_seen later_waiting : List ℕ) →
+    length later_seen ≤ 2 ^ 32 → Grows seen rest later_seen later_waiting → waiting ≡ rest ++ address ∷ [] →
+    2 * (2 ^ 32 - length later_seen) + length later_waiting < 2 * (2 ^ 32 - length seen) + length waiting
+grows_shrinks address seen waiting rest later_seen later_waiting few grows e =
+    shrinks (length seen) (length waiting) (length rest) (length later_seen) (length later_waiting)
+    few grows.more grows.counted
+    (ap length e ∙ length-append rest (address ∷ []))

@@ -1,15 +1,19 @@
 -- Lemmas of this crate.
 pub mod Contained
 pub mod Drawn
+pub mod Ends
 pub mod FarSight
 pub mod Foremost
 pub mod Growing
+pub mod Inferring
 pub mod LowWords
 pub mod Naming
 pub mod PlainSearch
 pub mod Ranging
+pub mod Returning
 pub mod RowPlaces
 pub mod RowTable
+pub mod RuleLists
 pub mod Searching
 pub mod Seen
 pub mod Sets

@@ -76,7 +76,7 @@ few_seen seen rising low =
     length-le_from_below (2 ^ 32) seen rising
     (All-weaker (Contains seen) (λ x. x < 2 ^ 32) low seen (All-contains_itself seen))
 
-shrinks : (seen waiting rest later_seen later_waiting : ℕ) → later_seen ≤ 2 ^ 32 → seen ≤ later_seen →
+pub shrinks : (seen waiting rest later_seen later_waiting : ℕ) → later_seen ≤ 2 ^ 32 → seen ≤ later_seen →
     later_seen + rest ≡ seen + later_waiting → waiting ≡ rest + 1 →
     2 * (2 ^ 32 - later_seen) + later_waiting < 2 * (2 ^ 32 - seen) + waiting
 shrinks seen waiting rest later_seen later_waiting few more counted one = omega arith
