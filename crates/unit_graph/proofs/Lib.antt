@@ -1,4 +1,5 @@
 -- Lemmas of this crate.
+pub mod Behind
 pub mod Contained
 pub mod Drawn
 pub mod Ends

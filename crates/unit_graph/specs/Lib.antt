@@ -1,6 +1,7 @@
 -- What the graph of a program's functions says.
 pub mod Contents
 pub mod Firsts
+pub mod Flow
 pub mod Graphs
 pub mod Inference
 pub mod Nodes

@@ -5,6 +5,7 @@
 mod content;
 mod fault;
 mod first;
+mod flow;
 mod graph;
 mod inference;
 mod linked;
