@@ -18,12 +18,13 @@ use Rattle.unit_graph.specs.declared.graph.Graph.{Graph}
 use Rattle.unit_graph.specs.declared.node.Unit.{Unit as Node}
 use Rattle.unit_graph.specs.Graphs.{IsGraph, IsNode}
 use Rattle.loop_nest.specs.Arcs.{IsBack}
-use Rattle.loop_nest.specs.Table.{AreMet, AreStepsTo, IsMet, IsStep, IsTableOf}
+use Rattle.step_table.specs.Table.{AreMet, AreStepsTo, IsMet, IsStep}
+use Rattle.loop_nest.specs.Table.{IsTableOf}
 use Rattle.loop_nest.proofs.Bounding.{address_of, node_is, place_is}
 use Rattle.loop_nest.proofs.Dominance.{goes-reached}
-use Rattle.loop_nest.proofs.Meeting.{a_step}
-use Rattle.loop_nest.proofs.Positions.{contains_at, place_of, Rises, same_place}
-use Rattle.loop_nest.proofs.Seen.{alone, itself}
+use Rattle.step_table.proofs.Meeting.{a_step}
+use Rattle.step_table.proofs.Positions.{contains_at, place_of, Rises, same_place}
+use Rattle.step_table.proofs.Seen.{alone, itself}
 
 -- A graph with the addresses of its units, the table of its steps and the position of its entry.
 pub record IsLaid (image : Image) (entry : ℕ) (graph : Graph) (addresses : List ℕ) (table : List (List ℕ)) (start : ℕ) : Type 0 where

@@ -12,15 +12,17 @@ use Rattle.unit_graph.specs.Graphs.{IsGraph}
 use Rattle.loop_nest.specs.declared.plan.Plan.{Plan}
 use Rattle.loop_nest.specs.declared.removal.Backs.{Backs}
 use Rattle.loop_nest.specs.Arcs.{AreBacks}
-use Rattle.loop_nest.specs.Cycles.{IsCyclic, IsFirstIrregular}
+use Rattle.step_table.specs.Cycles.{IsCyclic}
+use Rattle.loop_nest.specs.Cycles.{IsFirstIrregular}
 use Rattle.loop_nest.specs.Plans.{IsPlan}
 use Rattle.loop_nest.specs.Ranks.{AreRanks}
-use Rattle.loop_nest.specs.Table.{IsReverse, IsTableOf, IsWithin}
+use Rattle.step_table.specs.Table.{IsReverse, IsWithin}
+use Rattle.loop_nest.specs.Table.{IsTableOf}
 use Rattle.loop_nest.proofs.Bounding.{address_of, unit_at}
 use Rattle.loop_nest.proofs.Bridge.{count_is, IsLaid, met_all, step_goes}
 use Rattle.loop_nest.proofs.Cycling.{crossed_cyclic}
-use Rattle.loop_nest.proofs.Positions.{Rises}
-use Rattle.loop_nest.proofs.Reversing.{within_by}
+use Rattle.step_table.proofs.Positions.{Rises}
+use Rattle.step_table.proofs.Reversing.{within_by}
 
 rises_map : (units : List Node) → AllPairs (λ (a b : Node). a.address < b.address) units → Rises (map address_of units)
 rises_map units pairs i j d less inside =

@@ -17,16 +17,17 @@ use Rattle.loop_nest.specs.Arcs.{IsBack}
 use Rattle.loop_nest.specs.Bodies.{AreInner, Holds, IsInner}
 use Rattle.loop_nest.specs.Bounds.{Bounds, IsBySlot, IsOwn}
 use Rattle.loop_nest.specs.Listing.{IsHead}
-use Rattle.loop_nest.specs.Ranks.{AreRanks, number_of}
-use Rattle.loop_nest.specs.Table.{IsMet, IsReverse, IsStep}
+use Rattle.step_table.specs.Numbers.{number_of}
+use Rattle.loop_nest.specs.Ranks.{AreRanks}
+use Rattle.step_table.specs.Table.{IsMet, IsReverse, IsStep}
 use Rattle.loop_nest.proofs.Bounding.{node_is, place_is}
 use Rattle.loop_nest.proofs.Bridge.{arc_back, back_arc, count_is, goes_at, goes_step, is_node, IsLaid, place_at, reached_at, same_at, step_goes}
 use Rattle.loop_nest.proofs.Dominance.{body-header, goes-reached, header-reached}
 use Rattle.loop_nest.proofs.ForwardWays.{AreToldApart}
 use Rattle.loop_nest.proofs.Innermost.{innermost-of, innermost-one}
 use Rattle.loop_nest.proofs.Irreducibles.{AreListed}
-use Rattle.loop_nest.proofs.Meeting.{a_step, step_among}
-use Rattle.loop_nest.proofs.Positions.{Rises, same_place}
+use Rattle.step_table.proofs.Meeting.{a_step, step_among}
+use Rattle.step_table.proofs.Positions.{Rises, same_place}
 use Rattle.loop_nest.proofs.Removing.{falling_met}
 
 pub record IsRegular (image : Image) (entry : ℕ) (graph : Graph) (addresses : List ℕ) (table reverse sources : List (List ℕ))

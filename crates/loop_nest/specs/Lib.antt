@@ -7,6 +7,4 @@ pub mod Listing
 pub mod Nests
 pub mod Plans
 pub mod Ranks
-pub mod Rings
-pub mod Search
 pub mod Table

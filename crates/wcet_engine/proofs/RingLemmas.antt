@@ -4,11 +4,11 @@ use Rattle.std.specs.Prelude.{All, slice_get, option_map}
 use Rattle.std.proofs.lemmas.List.{length-map}
 use Rattle.std.proofs.lemmas.List.Elements.{All-map}
 use Rattle.std.proofs.lemmas.Option.{slice_get-map}
-use Rattle.loop_nest.specs.Cycles.{IsCyclic}
-use Rattle.loop_nest.specs.Table.{IsMet}
-use Rattle.loop_nest.specs.Table.{IsWithin as AreListsWithin}
-use Rattle.loop_nest.specs.Table.{IsStep as IsListed}
-use Rattle.loop_nest.specs.Table.IsMet.{begins, goes}
+use Rattle.step_table.specs.Cycles.{IsCyclic}
+use Rattle.step_table.specs.Table.{IsMet}
+use Rattle.step_table.specs.Table.{IsWithin as AreListsWithin}
+use Rattle.step_table.specs.Table.{IsStep as IsListed}
+use Rattle.step_table.specs.Table.IsMet.{begins, goes}
 use Rattle.wcet_engine.specs.declared.table.Steps.{Steps}
 use Rattle.wcet_engine.specs.Rings.{AreRings, lists_of}
 use Rattle.wcet_engine.specs.Table.{IsOnRing, IsStep, IsTrail, IsWithin, steps_in}

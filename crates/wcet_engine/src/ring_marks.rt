@@ -5,7 +5,7 @@ ghost use Rattle.wcet_engine.specs.Rings.{AreRings, lists_of};
 ghost use Rattle.wcet_engine.specs.Table.{IsWithin, listed, steps_in};
 
 use crate::table::Steps;
-use loop_nest::cyclic_positions;
+use step_table::cyclic_positions;
 use std::alloc::{AllocError, Global};
 use wcet_io::List;
 

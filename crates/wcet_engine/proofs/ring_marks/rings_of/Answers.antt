@@ -1,8 +1,8 @@
 -- The table of lists has the same rings.
 use Rattle.std.proofs.Common.{◌≡◌, ◌<◌, ◌↔◌, ℕ, List, Some, true, length, ap, sym, subst, ◌∙◌}
 use Rattle.std.specs.Prelude.{slice_get}
-use Rattle.loop_nest.specs.Cycles.{IsCyclic}
-use Rattle.loop_nest.specs.Table.{IsWithin as AreListsWithin}
+use Rattle.step_table.specs.Cycles.{IsCyclic}
+use Rattle.step_table.specs.Table.{IsWithin as AreListsWithin}
 use Rattle.wcet_engine.specs.Rings.{lists_of}
 use Rattle.wcet_engine.proofs.RingLemmas.{lists-within, rings-cyclic}
 use Rattle.wcet_engine.proofs.ring_marks.rings_of.Goals as goal
