@@ -1,12 +1,11 @@
 -- What an image's code means as a graph.
 pub mod Units
 pub mod Onward
-pub mod Reached
-pub mod Faults
-pub mod Ways
-pub mod Net
-pub mod Loops
 pub mod Targets
 pub mod Flow
 pub mod Functions
-pub mod Offences
+pub mod Faults
+pub mod Loops
+pub mod Reached
+pub mod Ways
+pub mod Net

@@ -79,7 +79,7 @@ row_program returning reach row calls seen waiting seen1 waiting1 seen2 waiting2
     is_program Program differ = refl
 
 -- The unit of an address is that of its one row.
-same_row : (rows : List Row) (row other : Row) → Rise rows → Contains rows row → Contains rows other → row.address ≡ other.address →
+pub same_row : (rows : List Row) (row other : Row) → Rise rows → Contains rows row → Contains rows other → row.address ≡ other.address →
     other ≡ row
 same_row rows row other rising (i, hi, ei) (j, hj, ej) same = by_case (cases_order i j)
   where

@@ -35,12 +35,12 @@ AreRules-sorted rows items sorted adds once rising = record {
     only rule h = elim (adds.only rule h) [ inl p ↦ absurd (in_none rule p) | inr q ↦ q ]
 
 -- What stands at a row that goes on or calls is a unit.
-goes_on : (image : Image) (address : ℕ) (content : Content) (later : ℕ) → content ≡ unit_at image address →
+pub goes_on : (image : Image) (address : ℕ) (content : Content) (later : ℕ) → content ≡ unit_at image address →
     Contains (ways_of_content image content address) later → GoesOn image address later
 goes_on image address (Stands unit) later e h = onward address later unit (sym e) h
 goes_on image address (Fault kind place) later e h = absurd (in_none later h)
 
-goes_back : (image : Image) (address : ℕ) (content : Content) (callee : ℕ) → content ≡ unit_at image address →
+pub goes_back : (image : Image) (address : ℕ) (content : Content) (callee : ℕ) → content ≡ unit_at image address →
     Contains (calls_of_content image content address) callee → CanReturn image callee → GoesOn image address (address + 8)
 goes_back image address (Stands unit) callee e h can = back address callee unit (sym e) h can
 goes_back image address (Fault kind place) callee e h can = absurd (in_none callee h)

@@ -6,7 +6,7 @@ use Rattle.std.specs.Ordering.{nat_cmp}
 use Rattle.std.proofs.lemmas.Map.Keys.{below_from_sorted}
 use Rattle.std.proofs.lemmas.List.Elements.{All-cons, All-contains_itself, All-nil, All-weaker}
 use Rattle.std.proofs.lemmas.List.Kept.{AllPairs-cons}
-use Rattle.unit_graph.specs.Graphs.{IsSetOf}
+use Rattle.unit_graph.specs.Graphs.{AreJust, IsSetOf}
 use Rattle.unit_graph.specs.Search.{Sees}
 
 rising : (a b : ℕ) → a < b → AllPairs (λ (x y : ℕ). x < y) (a ∷ b ∷ [])
@@ -67,3 +67,33 @@ pub IfOk-set : {E : Type 0} (xs ys : List ℕ) (result : Result (List ℕ) E) �
     IsSetOf xs ys → IfOk result (IsSetOf xs)
 IfOk-set xs ys (Ok list) e set = subst (IsSetOf xs) (sym e) set
 IfOk-set xs ys (Err error) e set = tt
+
+-- The same where the numbers are said otherwise.
+pub AreJust-seen : (these : ℕ → Type 0) (none nobody keys waiting items : List ℕ) → none ≡ [] → IsStrictlySortedBy nat_cmp none →
+    Sees these none nobody keys waiting → items ≡ keys → AreJust these items
+AreJust-seen these none nobody keys waiting items empty sorted sees e =
+    subst (AreJust these) (sym e) (record {
+      rising = λ i j d less inside. below_from_sorted keys i j d (sees.rising sorted) less inside;
+      sound = λ x h. elim (sees.only x h) [
+        | inl p ↦ absurd (in_none x (subst (λ (ys : List ℕ). Contains ys x) empty p))
+        | inr q ↦ q
+      ];
+      whole = sees.there;
+    })
+  where
+    in_none : (x : ℕ) → Contains [] x → ⊥
+    in_none x (k, inside, same) = omega arith
+
+pub AreJust-same : (these others : ℕ → Type 0) (items : List ℕ) → ((x : ℕ) → these x → others x) → ((x : ℕ) → others x → these x) →
+    AreJust these items → AreJust others items
+AreJust-same these others items into back are = record {
+  rising = are.rising;
+  sound = λ x h. into x (are.sound x h);
+  whole = λ x h. are.whole x (back x h);
+}
+
+pub IfOk-just : {V E : Type 0} (items : V → List ℕ) (these : ℕ → Type 0) (none nobody keys waiting : List ℕ) (result : Result V E) → none ≡ [] →
+    IsStrictlySortedBy nat_cmp none → Sees these none nobody keys waiting →
+    IfOk result (λ (v : V). items v ≡ keys) → IfOk result (λ (v : V). AreJust these (items v))
+IfOk-just items these none nobody keys waiting (Ok v) empty sorted sees e = AreJust-seen these none nobody keys waiting (items v) empty sorted sees e
+IfOk-just items these none nobody keys waiting (Err error) empty sorted sees e = tt

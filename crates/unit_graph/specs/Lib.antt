@@ -5,6 +5,8 @@ pub mod Flow
 pub mod Graphs
 pub mod Inference
 pub mod Nodes
+pub mod Program
+pub mod Recursion
 pub mod Rows
 pub mod Search
 pub mod Targets

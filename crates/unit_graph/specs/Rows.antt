@@ -3,6 +3,7 @@ use Rattle.std.specs.Prelude.{◌≡◌, ℕ, ◌+◌, ◌<◌, ◌⊎◌, List,
 use Rattle.elf_mips.specs.declared.image.Image.{Image}
 use Rattle.mips_decode.specs.declared.instr.Instr.{Instr}
 use Rattle.mips_decode.specs.declared.instr.Instr.TheVariants.{JumpLink}
+use Rattle.net_model.specs.declared.unit.CodeUnit.{CodeUnit}
 use Rattle.net_model.specs.declared.unit.Content.{Content}
 use Rattle.net_model.specs.declared.unit.Content.TheVariants.{Unit as Stands, Fault}
 use Rattle.net_model.specs.Flow.{called, ways_on}
@@ -41,6 +42,12 @@ pub record HasRow (rows : List Row) (address : ℕ) : Type 0 where
   pub row : Row
   pub listed : Contains rows row
   pub same : row.address ≡ address
+
+-- There is a row of an address, and a unit stands there.
+pub record HasUnit (rows : List Row) (address : ℕ) : Type 0 where
+  pub has : HasRow rows address
+  pub unit : CodeUnit
+  pub stands : has.row.content ≡ Stands unit
 
 -- Where the unit of a row may go on: its ways, what it calls, and the address behind its slot where it calls.
 abbrev pub MayLead : Row → ℕ → Type 0
