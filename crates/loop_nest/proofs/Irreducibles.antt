@@ -4,7 +4,7 @@ use Rattle.std.specs.Prelude.{Contains, slice_get}
 use Rattle.std.proofs.lemmas.Bool.{cases_lt, cases_eq}
 use Rattle.std.proofs.lemmas.Option.{get_or_from_slice_get, slice_get_within}
 use Rattle.elf_mips.specs.declared.image.Image.{Image}
-use Rattle.net_model.specs.Reached.{IsReached}
+use Rattle.net_model.specs.Functions.{IsReached}
 use Rattle.net_model.specs.Loops.{GoesForward, IsForwardWay, IsIrreducible}
 use Rattle.unit_graph.specs.declared.graph.Graph.{Graph}
 use Rattle.loop_nest.specs.Arcs.{IsBack}

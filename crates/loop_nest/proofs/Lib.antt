@@ -9,6 +9,7 @@ pub mod Arcs
 mod Bounding
 mod Bridge
 mod Cycling
+mod Finding
 mod Holding
 mod Collecting
 mod Irreducibles

@@ -5,7 +5,7 @@ use Rattle.std.proofs.lemmas.Bool.{OnFalse_at}
 use Rattle.std.proofs.lemmas.List.{length-map}
 use Rattle.std.proofs.lemmas.Option.{get_or_from_slice_get, slice_get-get_or, slice_get_within}
 use Rattle.elf_mips.specs.declared.image.Image.{Image}
-use Rattle.net_model.specs.Reached.IsReached.{first}
+use Rattle.net_model.specs.Functions.{first}
 use Rattle.unit_graph.specs.declared.graph.Graph.{Graph}
 use Rattle.unit_graph.specs.declared.node.Unit.{Unit as Node}
 use Rattle.unit_graph.specs.Graphs.{IsGraph}
@@ -51,7 +51,7 @@ pub entry_there : (image : Image) (entry : ℕ) (graph : Graph) → IsGraph imag
     units ≡ graph.units → addresses ≡ map address_of units → a ≡ addresses → Contains a graph.entry
 entry_there image entry graph graphed units addresses a units_are are same =
     subst (λ (xs : List ℕ). Contains xs graph.entry) (sym (same ∙ are ∙ ap (λ (us : List Node). map address_of us) units_are))
-    (subst (Contains (map address_of graph.units)) (sym graphed.begins) (graphed.whole entry first))
+    (subst (Contains (map address_of graph.units)) (sym graphed.begins) (graphed.whole entry (first entry)))
 
 -- The pieces of a plan.
 pub laid_by : (image : Image) (entry : ℕ) (graph : Graph) → IsGraph image entry graph → (units : List Node) (addresses a b : List ℕ)

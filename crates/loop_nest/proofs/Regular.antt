@@ -8,7 +8,7 @@ use Rattle.elf_mips.specs.declared.image.Image.{Image}
 use Rattle.elf_mips.specs.declared.mark.Mark.{Mark}
 use Rattle.net_model.specs.declared.unit.CodeUnit.{CodeUnit}
 use Rattle.net_model.specs.declared.unit.Content.TheVariants.{Unit as Stands}
-use Rattle.net_model.specs.Units.{content_at}
+use Rattle.net_model.specs.Targets.{unit_at}
 use Rattle.net_model.specs.Loops.{GoesForward, HasRanks, IsBackArc, IsHeader, IsInBody, IsInnermost, IsNamedBy}
 use Rattle.unit_graph.specs.declared.graph.Graph.{Graph}
 use Rattle.unit_graph.specs.declared.node.Unit.{Unit as Node}
@@ -312,14 +312,14 @@ named_bounds image entry graph addresses table reverse sources ranks start inner
       kind = named.bounds;
       named = by_case p node there same inner
           (is.described.slot ∙ ap (λ (u : CodeUnit). is_some u.slot)
-          (same_unit is.unit named.unit (subst (λ (x : ℕ). content_at image x ≡ Stands is.unit) same is.stands) named.stands))
+          (same_unit is.unit named.unit (subst (λ (x : ℕ). unit_at image x ≡ Stands is.unit) same is.stands) named.stands))
           named.there;
     }
   where
     same_stands : (u v : CodeUnit) → Stands u ≡ Stands v → u ≡ v
     same_stands u v e = cc
 
-    same_unit : (u v : CodeUnit) → content_at image named.address ≡ Stands u → content_at image named.address ≡ Stands v → u ≡ v
+    same_unit : (u v : CodeUnit) → unit_at image named.address ≡ Stands u → unit_at image named.address ≡ Stands v → u ≡ v
     same_unit u v h k = same_stands u v (sym h ∙ k)
 
     by_case : (p : ℕ) (node : Node) → slice_get graph.units p ≡ Some node → node.address ≡ named.address →

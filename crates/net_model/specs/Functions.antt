@@ -27,6 +27,11 @@ mutual
     returned : (function address : ℕ) (unit : CodeUnit) → IsReached image function address →
         unit_at image address ≡ Stands unit → returns unit ≡ true → CanReturn image function
 
+-- A way from one address over others to the last one of the list: each goes on to the next.
+abbrev pub IsWay : Image → ℕ → List ℕ → ℕ → Type 0
+IsWay image from [] to = from ≡ to
+IsWay image from (later ∷ more) to = GoesOn image from later × IsWay image later more to
+
 -- The unit at an address calls a function.
 pub record CallsAt (image : Image) (address callee : ℕ) : Type 0 where
   pub unit : CodeUnit

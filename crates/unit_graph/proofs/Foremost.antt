@@ -10,7 +10,8 @@ use Rattle.unit_graph.specs.declared.first.Offence.{Offence}
 use Rattle.unit_graph.specs.declared.reached.Reached.{Reached}
 use Rattle.unit_graph.specs.Firsts.{Follows, IsAmong, IsFaultOf, IsNoEarlier}
 
-later : (a b : Offence) (kind : CodeKind) (place : ℕ) → IsNoEarlier a b.kind b.place →
+-- What isn't before a fault that isn't before another one isn't before that one.
+pub later : (a b : Offence) (kind : CodeKind) (place : ℕ) → IsNoEarlier a b.kind b.place →
     IsNoEarlier b kind place → IsNoEarlier a kind place
 later a b kind place (inl p) (inl q) = inl (omega arith)
 later a b kind place (inl p) (inr q) = inl (omega arith)

@@ -24,6 +24,7 @@ mod ways;
 
 pub use content::{content_at, is_transfer};
 pub use fault::CodeFault;
+pub use first::{Offence, earlier};
 pub use graph::{Graph, Graphs, function_graphs};
 pub use net_model::CodeKind;
 pub use node::Unit;
