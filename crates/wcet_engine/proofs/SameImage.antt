@@ -1,4 +1,4 @@
--- Images with the same segments and entry have the same units, ways and faults.
+-- Images with the same segments, records and entry have the same units, ways and faults.
 use Rattle.std.proofs.Common.{◌≡◌, ℕ, ◌+◌, inl, inr, cond, List, [], ◌∷◌, Contains, None, refl, ap, sym, subst, ◌∙◌}
 use Rattle.elf_mips.specs.declared.image.Image.{Image}
 use Rattle.elf_mips.specs.declared.segment.Segment.{Segment}
@@ -13,22 +13,24 @@ use Rattle.net_model.specs.Units.{Word, Holds, Lacks, content_at, content_of, is
 use Rattle.net_model.specs.Reached.{IsReached, first, next}
 use Rattle.net_model.specs.Faults.{Offends}
 use Rattle.net_model.specs.Ways.{GoesOn, IsWay}
+use Rattle.net_model.proofs.SameCode.{offends-same}
 use Rattle.wcet_engine.specs.Faults.{HasNoReturn, IsPlainClash}
 use Rattle.wcet_engine.specs.Unbuilt.{IsMet, IsNotBuilt, IsUnbuiltAt}
 use Rattle.wcet_engine.specs.Unbuilt.{first as entry_met, next as next_met}
 
--- Two images with the same segments and entry.
+-- Two images with the same segments, records and entry.
 pub record IsSame (a b : Image) : Type 0 where
   pub segments : a.segments ≡ b.segments
+  pub marks : a.marks ≡ b.marks
   pub entry : a.entry ≡ b.entry
 
--- A file has one image, as far as its segments and its entry go.
+-- A file has one image, as far as its segments, its records and its entry go.
 pub same-image : (file : List ℕ) (a b : Image) → IsImage file a → IsImage file b → IsSame a b
 same-image file a b one other =
-    record { segments = one.segments ∙ sym other.segments; entry = one.entry ∙ sym other.entry }
+    record { segments = one.segments ∙ sym other.segments; marks = one.marks ∙ sym other.marks; entry = one.entry ∙ sym other.entry }
 
 pub turned : (a b : Image) → IsSame a b → IsSame b a
-turned a b same = record { segments = sym same.segments; entry = sym same.entry }
+turned a b same = record { segments = sym same.segments; marks = sym same.marks; entry = sym same.entry }
 
 word-same : (a b : Image) (address : ℕ) → IsSame a b → word_at a address ≡ word_at b address
 word-same a b address same =
@@ -77,7 +79,7 @@ met-same a b entry same _ (next_met address later before free goes) =
     next_met address later (met-same a b entry same address before)
     (λ not_built. free (not_built-same b a address (turned a b same) not_built)) (goes-same a b address later same goes)
 
--- What is said of an image holds of another one with the same segments and entry.
+-- What is said of an image holds of another one with the same segments, records and entry.
 pub clash-same : (a b : Image) (place : ℕ) → IsSame a b → IsPlainClash a place → IsPlainClash b place
 clash-same a b place same clash profile plain =
     let c = clash profile plain in
@@ -95,11 +97,7 @@ unbuilt-same a b place same unbuilt =
 pub fault-same : (a b : Image) (kind : CodeKind) (place : ℕ) → IsSame a b → Offends a a.entry kind place → Offends b b.entry kind place
 fault-same a b kind place same offends =
     subst (λ (entry : ℕ). Offends b entry kind place) same.entry
-    (record {
-      address = offends.address;
-      reached = reached-same a b a.entry same offends.address offends.reached;
-      faulty = stands-same a b offends.address (Fault kind place) same offends.faulty;
-    })
+    (offends-same a b (record { contents = λ address. content-same a b address same; marks = same.marks }) a.entry kind place offends)
 
 pub no_return-same : (a b : Image) → IsSame a b → HasNoReturn a → HasNoReturn b
 no_return-same a b same none address unit reached stands =
