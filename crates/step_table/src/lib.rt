@@ -6,6 +6,8 @@ mod finishing;
 mod rings;
 mod search;
 mod table;
+#[cfg(test)]
+mod tests;
 
 pub use cycles::first_cyclic;
 pub use finishing::order_of;

@@ -81,8 +81,8 @@ far_by image row later is may =
       | inr q ↦ elim q [
         | inl r ↦ inr (inl (All-contains (Contains (calls_of_content image row.content row.address)) row.calls later is.calls.sound r))
         | inr s ↦
-          let one = some_of row.calls s.0 in
-          inr (inr (one.0, All-contains (Contains (calls_of_content image row.content row.address)) row.calls one.0 is.calls.sound one.1, s.1))
+            let one = some_of row.calls s.0 in
+            inr (inr (one.0, All-contains (Contains (calls_of_content image row.content row.address)) row.calls one.0 is.calls.sound one.1, s.1))
       ]
     ])
 

@@ -41,11 +41,14 @@ goes_follows image entry rows returning _ _ are returns has (onward address late
     inl (row_goes image rows entry address later unit are has stands way)
 goes_follows image entry rows returning _ _ are returns has (back address callee unit stands calls can) =
     let way = row_calls image rows entry address callee unit are has stands calls in
-    inr (record {
-      callee = callee;
-      called = way;
-      returns = returns.whole callee (are.closed has.row has.listed callee (inr (inl way))) can;
-    }, ap (λ (a : ℕ). a + 8) has.same)
+    inr (
+      record {
+        callee = callee;
+        called = way;
+        returns = returns.whole callee (are.closed has.row has.listed callee (inr (inl way))) can;
+      },
+      ap (λ (a : ℕ). a + 8) has.same,
+    )
 
 -- What a row's unit calls.
 called_by : (image : Image) (address : ℕ) (content : Content) (callee : ℕ) → content ≡ unit_at image address →
@@ -104,9 +107,10 @@ pub reached_led : (image : Image) (entry : ℕ) (rows : List Row) (returning : L
     IsLed (Leads rows returning reach) function address × HasRow rows address
 reached_led image entry rows returning reach are returns _ _ (first function) has = (begins, has)
 reached_led image entry rows returning reach are returns _ _ (next function address later reached on) has =
-    let before = reached_led image entry rows returning reach are returns function address reached has in
-    (goes address later before.0 (lead_by image entry rows returning reach address later are returns before.1 on),
-      goes_row image entry rows returning address later are returns before.1 on)
+    let before = reached_led image entry rows returning reach are returns function address reached has in (
+      goes address later before.0 (lead_by image entry rows returning reach address later are returns before.1 on),
+      goes_row image entry rows returning address later are returns before.1 on,
+    )
 
 goes_lead : (image : Image) (entry : ℕ) (rows : List Row) (returning : List ℕ) (reach : Reach) (address later : ℕ) →
     AreRows image entry rows → AreReturning image rows returning → (l : Leads rows returning reach address later) →
@@ -164,10 +168,11 @@ function_led image entry rows returning are returns _ main = (begins, are.begins
 function_led image entry rows returning are returns _ (further function callee is calls) =
     let before = function_led image entry rows returning are returns function is in
     let within = reached_led image entry rows returning Program are returns function calls.address calls.reached before.1 in
-    let row = calls_row image entry rows calls.address callee are within.1 calls.calls in
-    (goes calls.address callee (led_on (Leads rows returning Program) entry function calls.address before.0 within.0)
-      (record { row = row.row; listed = row.listed; same = row.same; leads = inr (refl, row.calls) }),
-      callee_row image entry rows calls.address callee are row)
+    let row = calls_row image entry rows calls.address callee are within.1 calls.calls in (
+      goes calls.address callee (led_on (Leads rows returning Program) entry function calls.address before.0 within.0)
+          (record { row = row.row; listed = row.listed; same = row.same; leads = inr (refl, row.calls) }),
+      callee_row image entry rows calls.address callee are row,
+    )
 
 pub code_led : (image : Image) (entry : ℕ) (rows : List Row) (returning : List ℕ) → AreRows image entry rows →
     AreReturning image rows returning → (address : ℕ) → IsCode image entry address →

@@ -100,11 +100,11 @@ Infers-more rules rule seen waiting seen1 waiting1 seen2 waiting2 f g = record {
       elim (g.only x h) [
         | inl p ↦ f.sound image (All-front (IsSound image) rules rule sound) (All-front (λ (r : Rule). CanReturn image r.given) rules rule given) can x p
         | inr q ↦ subst (CanReturn image) (sym q.0)
-          (All-last (IsSound image) rules rule sound
-          (All-last (λ (r : Rule). CanReturn image r.given) rules rule given)
-          (can_other image rule.other seen1
-          (f.sound image (All-front (IsSound image) rules rule sound) (All-front (λ (r : Rule). CanReturn image r.given) rules rule given) can)
-          q.1))
+            (All-last (IsSound image) rules rule sound
+            (All-last (λ (r : Rule). CanReturn image r.given) rules rule given)
+            (can_other image rule.other seen1
+            (f.sound image (All-front (IsSound image) rules rule sound) (All-front (λ (r : Rule). CanReturn image r.given) rules rule given) can)
+            q.1))
       ];
   there =
       All-push (λ (r : Rule). IsMetBy r.other seen → Contains seen2 r.then) rules rule

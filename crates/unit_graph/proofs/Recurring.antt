@@ -94,9 +94,12 @@ step_calls : (image : Image) (entry : ℕ) (rows : List Row) (returning all : Li
 step_calls image entry rows returning all table t i j f at step =
     let row = function_at_place rows returning all all table t.zip i step.steps step.there in
     let called = (row.2 j).0 step.goes in
-    let same : row.0 ≡ f = same_Some row.0 f (sym row.1 ∙ at) in
-    (called.0, called.1, subst (λ (x : ℕ). Calls image x called.0) same
-    (called_calls image entry rows returning row.0 called.0 t.are t.returns called.2))
+    let same : row.0 ≡ f = same_Some row.0 f (sym row.1 ∙ at) in (
+      called.0,
+      called.1,
+      subst (λ (x : ℕ). Calls image x called.0) same
+          (called_calls image entry rows returning row.0 called.0 t.are t.returns called.2),
+    )
 
 calls_step : (image : Image) (entry : ℕ) (rows : List Row) (returning all : List ℕ) (table : List (List ℕ)) →
     IsTabled image entry rows returning all table → (i j f g : ℕ) → slice_get all i ≡ Some f → slice_get all j ≡ Some g →
@@ -129,13 +132,16 @@ met_leads image entry rows returning all table t i f steps at there _ (begins st
     (one.0, one.1, record { callee = one.0; more = []; begins = one.2; back = refl })
 met_leads image entry rows returning all table t i f steps at there _ (goes from to met step free) =
     let before = met_leads image entry rows returning all table t i f steps at there from met in
-    let one = step_calls image entry rows returning all table t from to before.0 before.1 step in
-    (one.0, one.1, record {
-      callee = before.2.callee;
-      more = before.2.more ++ one.0 ∷ [];
-      begins = before.2.begins;
-      back = way_snoc image before.2.callee before.2.more before.0 one.0 before.2.back one.2;
-    })
+    let one = step_calls image entry rows returning all table t from to before.0 before.1 step in (
+      one.0,
+      one.1,
+      record {
+        callee = before.2.callee;
+        more = before.2.more ++ one.0 ∷ [];
+        begins = before.2.begins;
+        back = way_snoc image before.2.callee before.2.more before.0 one.0 before.2.back one.2;
+      },
+    )
 
 pub cyclic_recursive : (image : Image) (entry : ℕ) (rows : List Row) (returning all : List ℕ) (table : List (List ℕ)) →
     IsTabled image entry rows returning all table → (i f : ℕ) → slice_get all i ≡ Some f → IsCyclic table i → IsRecursive image entry f
@@ -178,12 +184,15 @@ recursive_cyclic image entry rows returning all table t f is =
     let met = way_met image entry rows returning all table t step.steps is.more is.callee f there.0 next there.1
     (begins there.0 step.goes (λ e. omega (arith, e, slice_get_within all there.0 is.callee there.1, table_length rows returning all all table t.zip)))
     is.back in
-    let same : met.0 ≡ at.0 = same_place all t.functions.rising met.0 at.0 f met.1 at.1 in
-    (at.0, at.1, record {
-      steps = step.steps;
-      there = step.there;
-      met = subst (IsMet table step.steps (length table)) same met.2;
-    })
+    let same : met.0 ≡ at.0 = same_place all t.functions.rising met.0 at.0 f met.1 at.1 in (
+      at.0,
+      at.1,
+      record {
+        steps = step.steps;
+        there = step.there;
+        met = subst (IsMet table step.steps (length table)) same met.2;
+      },
+    )
 
 place_less : (all : List ℕ) → AllPairs (λ (a b : ℕ). a < b) all → (i j a b : ℕ) → slice_get all i ≡ Some a → slice_get all j ≡ Some b → a < b → i < j
 place_less all rising i j a b at other less = by_case (cases_lt i j)

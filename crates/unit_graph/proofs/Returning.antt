@@ -57,32 +57,56 @@ step_on : (image : Image) (rows : List Row) (rules : List Rule) (seen : List ℕ
     (address later : ℕ) (unit : CodeUnit) → unit_at image address ≡ Stands unit → Contains (ways_on image unit address) later →
     HasRow rows address → HasRow rows later × (Contains seen later → Contains seen address)
 step_on image rows rules seen closed address later unit stands goes has =
-    let way = row_goes image rows closed.entry address later unit closed.are has stands goes in
-    (closed.are.closed has.row has.listed later (inl way),
+    let way = row_goes image rows closed.entry address later unit closed.are has stands goes in (
+      closed.are.closed has.row has.listed later (inl way),
       λ h. closed.alone later address
           (closed.ruled.whole (record { given = later; other = None; then = address })
-          (record { row = has.row; listed = has.listed; is = inl (record { later = later; goes = way;
-          same = ap (λ (a : ℕ). record { given = later; other = None; then = a }) (sym has.same) }) }))
-          h)
+          (record {
+            row = has.row;
+            listed = has.listed;
+            is = inl (record {
+              later = later;
+              goes = way;
+              same = ap (λ (a : ℕ). record { given = later; other = None; then = a }) (sym has.same);
+            });
+          }))
+          h,
+    )
 
 step_back : (image : Image) (rows : List Row) (rules : List Rule) (seen : List ℕ) → IsClosed image rows rules seen →
     (address callee : ℕ) (unit : CodeUnit) → unit_at image address ≡ Stands unit → Contains (called image unit address) callee →
     HasRow rows address →
     HasRow rows callee × (Contains seen callee → HasRow rows (address + 8) × (Contains seen (address + 8) → Contains seen address))
 step_back image rows rules seen closed address callee unit stands calls has =
-    let way = row_calls image rows closed.entry address callee unit closed.are has stands calls in
-    (closed.are.closed has.row has.listed callee (inr (inl way)),
-      λ can.
-          (closed.are.closed has.row has.listed (address + 8)
-          (inr (inr (not_empty has.row.calls callee way, ap (λ (a : ℕ). a + 8) (sym has.same)))),
-            λ h. closed.both callee (address + 8) address
-                (closed.ruled.whole (record { given = callee; other = Some (address + 8); then = address })
-                (record { row = has.row; listed = has.listed; is = inr (record { callee = callee; called = way;
-                same = inl (ap (λ (a : ℕ). record { given = callee; other = Some (a + 8); then = a }) (sym has.same)) }) }))
-                (closed.ruled.whole (record { given = address + 8; other = Some callee; then = address })
-                (record { row = has.row; listed = has.listed; is = inr (record { callee = callee; called = way;
-                same = inr (ap (λ (a : ℕ). record { given = a + 8; other = Some callee; then = a }) (sym has.same)) }) }))
-                can h))
+    let way = row_calls image rows closed.entry address callee unit closed.are has stands calls in (
+      closed.are.closed has.row has.listed callee (inr (inl way)),
+      λ can. (
+        closed.are.closed has.row has.listed (address + 8)
+            (inr (inr (not_empty has.row.calls callee way, ap (λ (a : ℕ). a + 8) (sym has.same)))),
+        λ h. closed.both callee (address + 8) address
+            (closed.ruled.whole (record { given = callee; other = Some (address + 8); then = address })
+            (record {
+              row = has.row;
+              listed = has.listed;
+              is = inr (record {
+                callee = callee;
+                called = way;
+                same = inl (ap (λ (a : ℕ). record { given = callee; other = Some (a + 8); then = a }) (sym has.same));
+              });
+            }))
+            (closed.ruled.whole (record { given = address + 8; other = Some callee; then = address })
+            (record {
+              row = has.row;
+              listed = has.listed;
+              is = inr (record {
+                callee = callee;
+                called = way;
+                same = inr (ap (λ (a : ℕ). record { given = a + 8; other = Some callee; then = a }) (sym has.same));
+              });
+            }))
+            can h,
+      ),
+    )
 
 end_of : (image : Image) (rows : List Row) (entry address : ℕ) (unit : CodeUnit) → AreRows image entry rows →
     (has : HasRow rows address) → unit_at image address ≡ Stands unit → returns unit ≡ true → IsEnd rows address

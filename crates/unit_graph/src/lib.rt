@@ -1,7 +1,8 @@
 //! The graph of a program's functions: which units are reached, and how each goes on.
 #![tactic(auto)]
 
-
+#[cfg(test)]
+mod call_tests;
 mod content;
 mod fault;
 mod first;
@@ -17,9 +18,9 @@ mod rows;
 mod search;
 mod span;
 mod targets;
-mod transfers;
 #[cfg(test)]
 mod tests;
+mod transfers;
 mod ways;
 
 pub use content::{content_at, is_transfer};

@@ -58,11 +58,7 @@ pub fn list_of(alloc: Global, ways: Ways) -> Result<List<u32>, AllocError>
 }
 
 /// The onward units of a row's unit.
-fn onward_of(
-    alloc: Global,
-    row: &Row,
-    returning: &BTreeSet<u32>,
-) -> Result<List<u32>, AllocError>
+fn onward_of(alloc: Global, row: &Row, returning: &BTreeSet<u32>) -> Result<List<u32>, AllocError>
     requires { 0 < length row.now.calls → row.now.address + 8 < 2 ^ 32 }
     ensures { IfOk result (AreJust (Follows returning.now.keys row.now)) }
 {

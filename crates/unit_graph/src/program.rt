@@ -120,11 +120,7 @@ fn content_of(rows: &[Row], address: u32) -> Content
 }
 
 /// What stands at these addresses.
-fn contents_of(
-    alloc: Global,
-    rows: &[Row],
-    addresses: &[u32],
-) -> Result<Vec<Reached>, AllocError>
+fn contents_of(alloc: Global, rows: &[Row], addresses: &[u32]) -> Result<Vec<Reached>, AllocError>
     requires rising { Rise rows.now }
     requires there { All (HasRow rows.now) addresses.now }
     ensures { IfOk result (λ contents. (image : Image) → All (IsRow image) rows.now →

@@ -9,10 +9,10 @@ ghost use Rattle.unit_graph.specs.Targets.{AreTargets};
 ghost use Rattle.unit_graph.specs.Ways.{IsPlaced};
 
 use crate::linked::unit_at;
+use crate::node::list_of;
 use crate::search::{items_of, see_targets};
 use crate::targets::targets_at;
 use crate::transfers::{is_register_call, own_callee, own_ways};
-use crate::node::list_of;
 use crate::ways::{is_indirect, stops};
 use elf_mips::{Image, Mark};
 use net_model::{CodeUnit, Content};

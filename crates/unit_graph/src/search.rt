@@ -24,7 +24,11 @@ pub fn see(address: u32, seen: &mut BTreeSet<u32>, waiting: &mut Vec<u32>) -> Re
 }
 
 /// Sees the addresses of these ways, and lets those wait that weren't seen before.
-pub fn see_ways(ways: Ways, seen: &mut BTreeSet<u32>, waiting: &mut Vec<u32>) -> Result<(), AllocError>
+pub fn see_ways(
+    ways: Ways,
+    seen: &mut BTreeSet<u32>,
+    waiting: &mut Vec<u32>,
+) -> Result<(), AllocError>
     ensures { OnOk result (Sees (Contains (listed ways)) seen.old.keys waiting.old.items seen.new.keys waiting.new.items) }
 {
     match ways {

@@ -13,11 +13,7 @@ use std::collections::BTreeSet;
 use wcet_io::List;
 
 /// Sees where the unit of a row may go on, and what it calls.
-fn see_far(
-    row: &Row,
-    seen: &mut BTreeSet<u32>,
-    waiting: &mut Vec<u32>,
-) -> Result<(), AllocError>
+fn see_far(row: &Row, seen: &mut BTreeSet<u32>, waiting: &mut Vec<u32>) -> Result<(), AllocError>
     requires { (row.now.calls ≡ [] → ⊥) → row.now.address + 8 < 2 ^ 32 }
     ensures { OnOk result (Sees (MayLead row.now) seen.old.keys waiting.old.items seen.new.keys waiting.new.items) }
 {

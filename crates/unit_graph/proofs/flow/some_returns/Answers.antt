@@ -20,6 +20,8 @@ returns-then-has c =
     (λ h. some_here c.args.returning.now.keys c.args.calls.now c.loop-callee.callee-index c.loop-callee-test.true (search rules), λ h. refl)
 
 pub returns : goal.returns
-returns c =
-    (λ h. cc, λ h. absurd (subst (λ (calls : List ℕ). SomeReturns c.args.returning.now.keys calls → ⊥)
-    (take_all c.loop-callee.callee-index c.args.calls.now (omega (arith, c.loop-callee-test.false))) c.loop-callee.invariant h))
+returns c = (
+  λ h. cc,
+  λ h. absurd (subst (λ (calls : List ℕ). SomeReturns c.args.returning.now.keys calls → ⊥)
+      (take_all c.loop-callee.callee-index c.args.calls.now (omega (arith, c.loop-callee-test.false))) c.loop-callee.invariant h),
+)

@@ -10,9 +10,11 @@ use Rattle.unit_graph.proofs.Others.{AreGraphs-listed}
 use Rattle.unit_graph.proofs.graph.graphs_of.Goals as goal
 
 pub graph_of-requires-clause-rows : goal.graph_of-requires-clause-rows
-graph_of-requires-clause-rows c =
-    (c.requires.program.0, c.args.entry,
-    subst (AreRows c.requires.program.0 c.args.entry) (sym c.deref.ensures.value) c.requires.program.1.rows)
+graph_of-requires-clause-rows c = (
+  c.requires.program.0,
+  c.args.entry,
+  subst (AreRows c.requires.program.0 c.args.entry) (sym c.deref.ensures.value) c.requires.program.1.rows,
+)
 
 pub graph_of-requires-clause-units : goal.graph_of-requires-clause-units
 graph_of-requires-clause-units c =
@@ -21,9 +23,11 @@ graph_of-requires-clause-units c =
     c.requires.units (c.requires.program.1.functions.whole c.args.entry main))
 
 pub other_graphs-requires-clause-rows : goal.other_graphs-requires-clause-rows
-other_graphs-requires-clause-rows c =
-    (c.requires.program.0, c.args.entry,
-    subst (AreRows c.requires.program.0 c.args.entry) (sym c.deref-2.ensures.value) c.requires.program.1.rows)
+other_graphs-requires-clause-rows c = (
+  c.requires.program.0,
+  c.args.entry,
+  subst (AreRows c.requires.program.0 c.args.entry) (sym c.deref-2.ensures.value) c.requires.program.1.rows,
+)
 
 pub other_graphs-requires-clause-units : goal.other_graphs-requires-clause-units
 other_graphs-requires-clause-units c =
