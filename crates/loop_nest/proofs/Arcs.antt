@@ -2,8 +2,8 @@
 use Rattle.std.proofs.Common.{◌≡◌, ℕ, List, [], ◌∷◌, Contains, refl, subst, arith}
 use Rattle.std.proofs.lemmas.List.Elements.{Contains-append_right}
 use Rattle.elf_mips.specs.declared.image.Image.{Image}
-use Rattle.net_model.specs.Reached.{IsReached}
-use Rattle.net_model.specs.Ways.{GoesOn, IsWay}
+use Rattle.net_model.specs.Functions.{IsReached}
+use Rattle.net_model.specs.Functions.{GoesOn, IsWay}
 use Rattle.net_model.specs.Loops.{IsBackArc, IsForwardWay, IsIrreducible, IsReachedWithout, begins, goes}
 
 first-listed : (x : ℕ) (more : List ℕ) → Contains (x ∷ more) x

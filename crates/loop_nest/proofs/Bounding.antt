@@ -9,8 +9,8 @@ use Rattle.std.proofs.lemmas.List.Elements.{Contains-append_left, Contains-push,
 use Rattle.elf_mips.specs.declared.mark.Mark.{Mark}
 use Rattle.unit_graph.specs.declared.node.Unit.{Unit as Node}
 use Rattle.loop_nest.specs.Bounds.{AreBounds, Bounds, IsBoundOf, IsBySlot, IsJust, IsLeastOf, IsLesserOf, IsLowered, IsOwn}
-use Rattle.loop_nest.proofs.Positions.{contains_at, Rises, same_place}
-use Rattle.loop_nest.proofs.Seen.{slice_get-replicate, slice_get-set_other, slice_get-set_same}
+use Rattle.step_table.proofs.Positions.{contains_at, Rises, same_place}
+use Rattle.step_table.proofs.Seen.{slice_get-replicate, slice_get-set_other, slice_get-set_same}
 
 abbrev pub address_of : Node → ℕ
 address_of node = node.address

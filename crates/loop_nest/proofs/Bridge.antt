@@ -8,22 +8,23 @@ use Rattle.std.proofs.lemmas.List.Elements.{All-contains}
 use Rattle.elf_mips.specs.declared.image.Image.{Image}
 use Rattle.net_model.specs.declared.unit.CodeUnit.{CodeUnit}
 use Rattle.net_model.specs.declared.unit.Content.TheVariants.{Unit as Stands}
-use Rattle.net_model.specs.Units.{content_at}
+use Rattle.net_model.specs.Targets.{unit_at}
 use Rattle.net_model.specs.Onward.{onward}
-use Rattle.net_model.specs.Reached.{IsReached}
-use Rattle.net_model.specs.Reached.IsReached.{first, next}
-use Rattle.net_model.specs.Ways.{GoesOn}
+use Rattle.net_model.specs.Functions.{IsReached}
+use Rattle.net_model.specs.Functions.{first, next}
+use Rattle.net_model.specs.Functions.{GoesOn}
 use Rattle.net_model.specs.Loops.{IsBackArc, IsReachedWithout}
 use Rattle.unit_graph.specs.declared.graph.Graph.{Graph}
 use Rattle.unit_graph.specs.declared.node.Unit.{Unit as Node}
 use Rattle.unit_graph.specs.Graphs.{IsGraph, IsNode}
 use Rattle.loop_nest.specs.Arcs.{IsBack}
-use Rattle.loop_nest.specs.Table.{AreMet, AreStepsTo, IsMet, IsStep, IsTableOf}
+use Rattle.step_table.specs.Table.{AreMet, AreStepsTo, IsMet, IsStep}
+use Rattle.loop_nest.specs.Table.{IsTableOf}
 use Rattle.loop_nest.proofs.Bounding.{address_of, node_is, place_is}
 use Rattle.loop_nest.proofs.Dominance.{goes-reached}
-use Rattle.loop_nest.proofs.Meeting.{a_step}
-use Rattle.loop_nest.proofs.Positions.{contains_at, place_of, Rises, same_place}
-use Rattle.loop_nest.proofs.Seen.{alone, itself}
+use Rattle.step_table.proofs.Meeting.{a_step}
+use Rattle.step_table.proofs.Positions.{contains_at, place_of, Rises, same_place}
+use Rattle.step_table.proofs.Seen.{alone, itself}
 
 -- A graph with the addresses of its units, the table of its steps and the position of its entry.
 pub record IsLaid (image : Image) (entry : ℕ) (graph : Graph) (addresses : List ℕ) (table : List (List ℕ)) (start : ℕ) : Type 0 where
@@ -99,11 +100,7 @@ step_goes image entry graph addresses table start laid i j step =
       b,
       place_is graph.units addresses (record { are = laid.are; rising = laid.rising }) i node there,
       at,
-      record {
-        unit = is.unit;
-        stands = is.stands;
-        onward = All-contains (Contains (onward is.unit node.address)) node.onward b is.described.onward.sound among;
-      },
+      is.described.onward.sound b among,
     )
 
 pub goes_step : (image : Image) (entry : ℕ) (graph : Graph) (addresses : List ℕ) (table : List (List ℕ)) (start : ℕ) →
@@ -113,16 +110,8 @@ goes_step image entry graph addresses table start laid i j a b ati atj on =
     let (node, there, same) = node_is graph.units addresses (record { are = laid.are; rising = laid.rising }) i a ati in
     let (steps, at, are) = zip_left (Steps addresses) graph.units table laid.follows i node there in
     let is = is_node image entry graph laid.graphed i node there in
-    let among : Contains (onward is.unit node.address) b =
-    subst (λ (x : ℕ). Contains (onward is.unit x) b) (sym same)
-    (subst (λ (unit : CodeUnit). Contains (onward unit a) b)
-    (same_unit on.unit is.unit (sym on.stands ∙ subst (λ (x : ℕ). content_at image x ≡ Stands is.unit) same is.stands))
-    on.onward) in
     a_step table i j steps at
-    ((are j).1 (b, atj, All-contains (Contains node.onward) (onward is.unit node.address) b is.described.onward.whole among))
-  where
-    same_unit : (u v : CodeUnit) → Stands u ≡ Stands v → u ≡ v
-    same_unit u v e = cc
+    ((are j).1 (b, atj, is.described.onward.whole b (subst (λ (x : ℕ). GoesOn image x b) (sym same) on)))
 
 pub goes_at : (image : Image) (entry : ℕ) (graph : Graph) (addresses : List ℕ) (table : List (List ℕ)) (start : ℕ) →
     IsLaid image entry graph addresses table start → (i j a b : ℕ) → slice_get addresses i ≡ Some a →
@@ -148,14 +137,13 @@ met_all image entry graph addresses table start laid x inside =
 
     met : (a : ℕ) → IsReached image entry a → (k : ℕ) → slice_get addresses k ≡ Some a →
         IsMet table (start ∷ []) (length table) k
-    met _ first k at =
+    met _ (first _) k at =
         let same : start ≡ k = same_place addresses laid.rising start k entry laid.begins at in
         IsMet.begins k (subst (Contains (start ∷ [])) same (itself start)) (low k entry at)
-    met _ (next a later unit reached stands among) k at =
+    met _ (next _ a later reached on) k at =
         let (i, ati) = place_at image entry graph addresses table start laid a reached in
         IsMet.goes i k (met a reached i ati)
-        (goes_step image entry graph addresses table start laid i k a later ati at
-        (record { unit = unit; stands = stands; onward = among }))
+        (goes_step image entry graph addresses table start laid i k a later ati at on)
         (low k later at)
 
 -- What is met without a header is reached without it.
@@ -182,7 +170,7 @@ met_without image entry graph addresses table start laid h hd ath _ (IsMet.goes 
 
 pub without_reached : (image : Image) (entry header address : ℕ) → IsReachedWithout image entry header address →
     IsReached image entry address
-without_reached image entry header _ (IsReachedWithout.begins apart) = first
+without_reached image entry header _ (IsReachedWithout.begins apart) = first entry
 without_reached image entry header _ (IsReachedWithout.goes address later without on apart) =
     goes-reached image entry address later (without_reached image entry header address without) on
 

@@ -7,10 +7,10 @@ use Rattle.std.proofs.lemmas.List.Elements.{Contains-append_left, Contains-get_o
 use Rattle.std.proofs.lemmas.List.Quantifiers.{all_pairs_push}
 use Rattle.loop_nest.specs.Bodies.{IsBody}
 use Rattle.loop_nest.specs.Listing.{AreLoopsAt, IsHead, IsListing, IsLoopAt, IsUnboundedAt}
-use Rattle.loop_nest.specs.Search.{IsSeen}
-use Rattle.loop_nest.specs.Table.{IsMet}
+use Rattle.step_table.specs.Search.{IsSeen}
+use Rattle.step_table.specs.Table.{IsMet}
 use Rattle.loop_nest.specs.declared.nest.Loop.{Loop}
-use Rattle.loop_nest.proofs.Positions.{Rises}
+use Rattle.step_table.proofs.Positions.{Rises}
 
 nothing_in : {X : Type 0} (x : X) → Contains [] x → ⊥
 nothing_in x (k, inside, e) = omega arith

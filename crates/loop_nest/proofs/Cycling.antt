@@ -5,14 +5,16 @@ use Rattle.std.proofs.lemmas.Bool.{cases_eq}
 use Rattle.std.proofs.lemmas.List.{take_all, take_more}
 use Rattle.std.proofs.lemmas.List.Elements.{Contains-append_left, Contains-push, Contains-push_cases}
 use Rattle.loop_nest.specs.Arcs.{Crosses, IsBack}
-use Rattle.loop_nest.specs.Cycles.{AreForward, IsCyclic, IsForward}
-use Rattle.loop_nest.specs.Ranks.{AreRanks, IsFalling, number_of}
-use Rattle.loop_nest.specs.Table.{IsMet, IsStep, IsWithin}
-use Rattle.loop_nest.proofs.Meeting.{a_step, step_among}
-use Rattle.loop_nest.proofs.Places.{place_cases, place_last, place_left}
+use Rattle.step_table.specs.Cycles.{IsCyclic}
+use Rattle.loop_nest.specs.Cycles.{AreForward, IsForward}
+use Rattle.step_table.specs.Numbers.{number_of}
+use Rattle.loop_nest.specs.Ranks.{AreRanks, IsFalling}
+use Rattle.step_table.specs.Table.{IsMet, IsStep, IsWithin}
+use Rattle.step_table.proofs.Meeting.{a_step, step_among}
+use Rattle.step_table.proofs.Places.{place_cases, place_last, place_left}
 use Rattle.loop_nest.proofs.Removing.{falling_met}
-use Rattle.loop_nest.proofs.Reversing.{from_within, step_within, within_by}
-use Rattle.loop_nest.proofs.Seen.{in_none}
+use Rattle.step_table.proofs.Reversing.{from_within, step_within, within_by}
+use Rattle.step_table.proofs.Seen.{in_none}
 
 pub forward_none : (sources : List (List ℕ)) (from : ℕ) (list : List ℕ) → list ≡ [] → AreForward sources from [] list
 forward_none sources from list e x = (

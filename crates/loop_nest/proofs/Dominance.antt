@@ -2,8 +2,8 @@
 use Rattle.std.proofs.Common.{◌≡◌, ℕ, ◌==◌, ◌⊎◌, inl, inr, Bool, true, false, refl}
 use Rattle.std.proofs.lemmas.Bool.{eqb-true, eqb-false}
 use Rattle.elf_mips.specs.declared.image.Image.{Image}
-use Rattle.net_model.specs.Reached.{IsReached, next}
-use Rattle.net_model.specs.Ways.{GoesOn}
+use Rattle.net_model.specs.Functions.{IsReached, next}
+use Rattle.net_model.specs.Functions.{GoesOn}
 use Rattle.net_model.specs.Loops.{IsHeader, IsInBody, IsReachedWithout, begins, goes, head, source, before}
 
 -- Two addresses are one, or they aren't.
@@ -16,7 +16,7 @@ same_or_other a b = by_test (a == b) refl where
 -- What a reached unit goes on to is reached.
 pub goes-reached : (image : Image) (entry address later : ℕ) → IsReached image entry address → GoesOn image address later →
     IsReached image entry later
-goes-reached image entry address later reached on = next address later on.unit reached on.stands on.onward
+goes-reached image entry address later reached on = next entry address later reached on
 
 -- The header of a back arc is reached.
 pub header-reached : (image : Image) (entry header : ℕ) → IsHeader image entry header → IsReached image entry header

@@ -1,8 +1,8 @@
 -- Each unit is reached by a way without back arcs.
 use Rattle.std.proofs.Common.{◌≡◌, ℕ, ◌⊎◌, inl, inr, List, [], ◌∷◌, ◌++◌, refl, sym, subst}
 use Rattle.elf_mips.specs.declared.image.Image.{Image}
-use Rattle.net_model.specs.Reached.{IsReached, first, next}
-use Rattle.net_model.specs.Ways.{GoesOn}
+use Rattle.net_model.specs.Functions.{IsReached, first, next}
+use Rattle.net_model.specs.Functions.{GoesOn}
 use Rattle.net_model.specs.Loops.{GoesForward, IsBackArc, IsForwardWay, IsInBody, IsReachedWithout, begins, goes}
 use Rattle.loop_nest.proofs.Dominance.{same_or_other, body-behind}
 
@@ -79,10 +79,9 @@ forward-step image entry address later way forward on (inr ahead) =
 -- Each reached unit is reached by a forward way.
 pub forward-reached : (image : Image) (entry : ℕ) → AreToldApart image entry → (address : ℕ) → IsReached image entry address →
     (way : List ℕ) × IsForwardWay image entry entry way address
-forward-reached image entry told _ first = ([], refl)
-forward-reached image entry told _ (next address later unit reached stands there) =
+forward-reached image entry told _ (first _) = ([], refl)
+forward-reached image entry told _ (next _ address later reached on) =
     let way = forward-reached image entry told address reached in
-    let on : GoesOn image address later = record { unit = unit; stands = stands; onward = there } in
     forward-step image entry address later way.0 way.1 on (told address later reached on)
 
 -- A forward way leads from a header to each unit of its body.

@@ -1,7 +1,7 @@
 -- Ranks that rise along all arcs but back arcs: the header has the least of its body, and no cycle is without a back arc.
 use Rattle.std.proofs.Common.{◌≡◌, ℕ, ◌<◌, ◌≤◌, List, [], ◌∷◌, ap, arith}
 use Rattle.elf_mips.specs.declared.image.Image.{Image}
-use Rattle.net_model.specs.Reached.{IsReached}
+use Rattle.net_model.specs.Functions.{IsReached}
 use Rattle.net_model.specs.Loops.{HasRanks, IsForwardWay, IsInBody, IsIrreducible}
 use Rattle.loop_nest.proofs.Dominance.{body-header, body-reached, goes-reached, header-reached}
 use Rattle.loop_nest.proofs.ForwardWays.{AreToldApart, forward-body}

@@ -6,11 +6,11 @@ use Rattle.std.proofs.Math.ListN.{length-replicate, length-set}
 use Rattle.std.proofs.lemmas.Bool.{cases_eq}
 use Rattle.std.proofs.lemmas.Option.{same_Some, slice_get-get_or, slice_get_within}
 use Rattle.loop_nest.specs.Bodies.{AreBelow, AreInner, AreNoted, Holds, IsBody, IsInner, IsLesser, IsNoted, IsNoting}
-use Rattle.loop_nest.specs.Ranks.{number_of}
-use Rattle.loop_nest.specs.Search.{IsSeen, SeesMet}
-use Rattle.loop_nest.specs.Table.{IsMet}
+use Rattle.step_table.specs.Numbers.{number_of}
+use Rattle.step_table.specs.Search.{IsSeen, SeesMet}
+use Rattle.step_table.specs.Table.{IsMet}
 use Rattle.loop_nest.proofs.Removing.{seen_by, unseen_from}
-use Rattle.loop_nest.proofs.Seen.{slice_get-replicate, slice_get-set_other, slice_get-set_same}
+use Rattle.step_table.proofs.Seen.{slice_get-replicate, slice_get-set_other, slice_get-set_same}
 
 -- What a test for emptiness tells.
 pub none_left : (b : Bool) (n : ℕ) → b ≡ (n == 0) → b ≡ true → 0 < n → ⊥

@@ -1,7 +1,7 @@
 -- The innermost loop that holds a unit: that of the header with the greatest rank.
 use Rattle.std.proofs.Common.{◌≡◌, ℕ, ◌≤◌, ◌⊎◌, inl, inr, subst, arith}
 use Rattle.elf_mips.specs.declared.image.Image.{Image}
-use Rattle.net_model.specs.Reached.{IsReached}
+use Rattle.net_model.specs.Functions.{IsReached}
 use Rattle.net_model.specs.Loops.{HasRanks, IsInBody, IsInnermost, head}
 use Rattle.loop_nest.proofs.Dominance.{body-header, body-reached}
 use Rattle.loop_nest.proofs.Laminar.{apart, laminar}

@@ -4,18 +4,19 @@ use Rattle.std.specs.Prelude.{Contains, slice_get}
 use Rattle.std.proofs.lemmas.Bool.{cases_lt, cases_eq}
 use Rattle.std.proofs.lemmas.Option.{get_or_from_slice_get, slice_get_within}
 use Rattle.elf_mips.specs.declared.image.Image.{Image}
-use Rattle.net_model.specs.Reached.{IsReached}
+use Rattle.net_model.specs.Functions.{IsReached}
 use Rattle.net_model.specs.Loops.{GoesForward, IsForwardWay, IsIrreducible}
 use Rattle.unit_graph.specs.declared.graph.Graph.{Graph}
 use Rattle.loop_nest.specs.Arcs.{IsBack}
-use Rattle.loop_nest.specs.Cycles.{IsCyclic, IsFirstIrregular, IsForward}
+use Rattle.step_table.specs.Cycles.{IsCyclic}
+use Rattle.loop_nest.specs.Cycles.{IsFirstIrregular, IsForward}
 use Rattle.loop_nest.specs.Nests.{IsFirstIrreducible}
-use Rattle.loop_nest.specs.Table.{IsMet, IsStep}
+use Rattle.step_table.specs.Table.{IsMet, IsStep}
 use Rattle.loop_nest.proofs.Bridge.{arc_back, back_arc, count_is, goes_at, goes_step, IsLaid, place_at, reached_at, same_at, step_goes}
 use Rattle.loop_nest.proofs.Dominance.{goes-reached}
 use Rattle.loop_nest.proofs.ForwardWays.{forward-push}
-use Rattle.loop_nest.proofs.Meeting.{a_step}
-use Rattle.loop_nest.proofs.Positions.{Rises, same_place}
+use Rattle.step_table.proofs.Meeting.{a_step}
+use Rattle.step_table.proofs.Positions.{Rises, same_place}
 
 -- The back arcs are listed by their headers.
 pub record AreListed (table : List (List ℕ)) (start : ℕ) (sources : List (List ℕ)) : Type 0 where

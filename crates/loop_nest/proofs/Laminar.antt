@@ -1,8 +1,8 @@
 -- Two loops lie apart, or one lies in the other.
 use Rattle.std.proofs.Common.{◌≡◌, ℕ, ◌⊎◌, inl, inr, refl, sym, subst, ◌∙◌}
 use Rattle.elf_mips.specs.declared.image.Image.{Image}
-use Rattle.net_model.specs.Reached.{IsReached, first, next}
-use Rattle.net_model.specs.Ways.{GoesOn}
+use Rattle.net_model.specs.Functions.{IsReached, first, next}
+use Rattle.net_model.specs.Functions.{GoesOn}
 use Rattle.net_model.specs.Loops.{IsBackArc, IsInBody, IsReachedWithout, begins, goes, head, source, before}
 use Rattle.loop_nest.proofs.Dominance.{same_or_other, body-reached, body-behind, entry-header, without-apart}
 
@@ -14,16 +14,16 @@ AreNested image entry header other =
 -- Back along the way from the entry, until one of the headers comes.
 nested-back : (image : Image) (entry header other address : ℕ) → IsReached image entry address →
     IsInBody image entry header address → IsInBody image entry other address → AreNested image entry header other
-nested-back image entry header other _ first body second =
+nested-back image entry header other _ (first _) body second =
     inl (sym (entry-header image entry header body) ∙ entry-header image entry other second)
-nested-back image entry header other _ (next address later unit reached stands on) body second =
+nested-back image entry header other _ (next _ address later reached on) body second =
     elim (same_or_other later header) [
       | inl same ↦ inr (inl (subst (IsInBody image entry other) same second))
       | inr away ↦ elim (same_or_other later other) [
         | inl same ↦ inr (inr (subst (IsInBody image entry header) same body))
         | inr far ↦ nested-back image entry header other address reached
-            (before address later reached (record { unit = unit; stands = stands; onward = on }) away body)
-            (before address later reached (record { unit = unit; stands = stands; onward = on }) far second)
+            (before address later reached on away body)
+            (before address later reached on far second)
       ]
     ]
 
@@ -63,14 +63,13 @@ first_of-entry image entry header other differ = by_header (same_or_other entry 
 
 first_of : (image : Image) (entry header other address : ℕ) → (header ≡ other → ⊥) → IsReached image entry address →
     IsFirstOf image entry header other address
-first_of image entry header other _ differ first = first_of-entry image entry header other differ
-first_of image entry header other _ differ (next address later unit reached stands on) =
+first_of image entry header other _ differ (first _) = first_of-entry image entry header other differ
+first_of image entry header other _ differ (next _ address later reached on) =
     elim (first_of image entry header other address differ reached) [
       | inl one ↦ inl one
       | inr rest ↦ elim rest [
         | inl two ↦ inr (inl two)
-        | inr both ↦ first_of-step image entry header other address later differ both.0 both.1
-            (record { unit = unit; stands = stands; onward = on })
+        | inr both ↦ first_of-step image entry header other address later differ both.0 both.1 on
       ]
     ]
 

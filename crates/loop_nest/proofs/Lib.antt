@@ -17,20 +17,14 @@ pub mod Arcs
 mod Bounding
 mod Bridge
 mod Cycling
+mod Finding
 mod Holding
-mod Leaving
 mod Collecting
 mod Irreducibles
-mod Meeting
 mod Nesting
-pub mod Places
 mod Planning
-pub mod Positions
 mod Ranking
 mod Regular
 mod Removing
 mod Returning
-mod Reversing
-mod Ringing
-pub mod Seen
 mod Walking

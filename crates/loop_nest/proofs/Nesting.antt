@@ -22,9 +22,9 @@ use Rattle.loop_nest.proofs.Dominance.{body-reached, header-reached}
 use Rattle.loop_nest.proofs.HeaderRank.{ranks-reducible}
 use Rattle.loop_nest.proofs.Irreducibles.{first_irreducible, lesser_place}
 use Rattle.loop_nest.proofs.Planning.{laid_of}
-use Rattle.loop_nest.proofs.Positions.{contains_at, place_of}
+use Rattle.step_table.proofs.Positions.{contains_at, place_of}
 use Rattle.loop_nest.proofs.Regular.{body_holds, bounds_named, head_of, header_of, holds_body, IsRegular, named_bounds, ranks_by}
-use Rattle.loop_nest.proofs.Reversing.{step_within}
+use Rattle.step_table.proofs.Reversing.{step_within}
 
 -- What was found, with the image.
 pub record IsKnown (image : Image) (entry : ℕ) (graph : Graph) (addresses : List ℕ) (table reverse sources : List (List ℕ))

@@ -5,22 +5,24 @@ use Rattle.std.proofs.lemmas.Bool.{OnFalse_at}
 use Rattle.std.proofs.lemmas.List.{length-map}
 use Rattle.std.proofs.lemmas.Option.{get_or_from_slice_get, slice_get-get_or, slice_get_within}
 use Rattle.elf_mips.specs.declared.image.Image.{Image}
-use Rattle.net_model.specs.Reached.IsReached.{first}
+use Rattle.net_model.specs.Functions.{first}
 use Rattle.unit_graph.specs.declared.graph.Graph.{Graph}
 use Rattle.unit_graph.specs.declared.node.Unit.{Unit as Node}
 use Rattle.unit_graph.specs.Graphs.{IsGraph}
 use Rattle.loop_nest.specs.declared.plan.Plan.{Plan}
 use Rattle.loop_nest.specs.declared.removal.Backs.{Backs}
 use Rattle.loop_nest.specs.Arcs.{AreBacks}
-use Rattle.loop_nest.specs.Cycles.{IsCyclic, IsFirstIrregular}
+use Rattle.step_table.specs.Cycles.{IsCyclic}
+use Rattle.loop_nest.specs.Cycles.{IsFirstIrregular}
 use Rattle.loop_nest.specs.Plans.{IsPlan}
 use Rattle.loop_nest.specs.Ranks.{AreRanks}
-use Rattle.loop_nest.specs.Table.{IsReverse, IsTableOf, IsWithin}
+use Rattle.step_table.specs.Table.{IsReverse, IsWithin}
+use Rattle.loop_nest.specs.Table.{IsTableOf}
 use Rattle.loop_nest.proofs.Bounding.{address_of, unit_at}
 use Rattle.loop_nest.proofs.Bridge.{count_is, IsLaid, met_all, step_goes}
 use Rattle.loop_nest.proofs.Cycling.{crossed_cyclic}
-use Rattle.loop_nest.proofs.Positions.{Rises}
-use Rattle.loop_nest.proofs.Reversing.{within_by}
+use Rattle.step_table.proofs.Positions.{Rises}
+use Rattle.step_table.proofs.Reversing.{within_by}
 
 rises_map : (units : List Node) → AllPairs (λ (a b : Node). a.address < b.address) units → Rises (map address_of units)
 rises_map units pairs i j d less inside =
@@ -49,7 +51,7 @@ pub entry_there : (image : Image) (entry : ℕ) (graph : Graph) → IsGraph imag
     units ≡ graph.units → addresses ≡ map address_of units → a ≡ addresses → Contains a graph.entry
 entry_there image entry graph graphed units addresses a units_are are same =
     subst (λ (xs : List ℕ). Contains xs graph.entry) (sym (same ∙ are ∙ ap (λ (us : List Node). map address_of us) units_are))
-    (subst (Contains (map address_of graph.units)) (sym graphed.begins) (graphed.whole entry first))
+    (subst (Contains (map address_of graph.units)) (sym graphed.begins) (graphed.whole entry (first entry)))
 
 -- The pieces of a plan.
 pub laid_by : (image : Image) (entry : ℕ) (graph : Graph) → IsGraph image entry graph → (units : List Node) (addresses a b : List ℕ)

@@ -4,10 +4,11 @@ use Rattle.std.specs.Prelude.{slice_get}
 use Rattle.std.proofs.Math.ListN.{length-set, length-replicate}
 use Rattle.std.proofs.lemmas.Bool.{cases_eq, cases_lt}
 use Rattle.std.proofs.lemmas.Option.{same_Some}
-use Rattle.loop_nest.specs.Ranks.{AreRanks, IsPlaced, IsWalk, number_of}
-use Rattle.loop_nest.specs.Table.{AreMet, IsMet}
-use Rattle.loop_nest.proofs.Seen.{alone}
-use Rattle.loop_nest.proofs.Places.{number_none, number_other, number_outside, number_same, place_last, place_within, zeros, zeros_fewer, zeros_none}
+use Rattle.step_table.specs.Numbers.{number_of}
+use Rattle.loop_nest.specs.Ranks.{AreRanks, IsPlaced, IsWalk}
+use Rattle.step_table.specs.Table.{AreMet, IsMet}
+use Rattle.step_table.proofs.Seen.{alone}
+use Rattle.step_table.proofs.Places.{number_none, number_other, number_outside, number_same, place_last, place_within, zeros, zeros_fewer, zeros_none}
 
 -- The search begins with the entry on the trail.
 pub walk_start : (table : List (List ℕ)) (entry : ℕ) (new trail : List ℕ) (top : ℕ) →

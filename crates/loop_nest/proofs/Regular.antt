@@ -8,7 +8,7 @@ use Rattle.elf_mips.specs.declared.image.Image.{Image}
 use Rattle.elf_mips.specs.declared.mark.Mark.{Mark}
 use Rattle.net_model.specs.declared.unit.CodeUnit.{CodeUnit}
 use Rattle.net_model.specs.declared.unit.Content.TheVariants.{Unit as Stands}
-use Rattle.net_model.specs.Units.{content_at}
+use Rattle.net_model.specs.Targets.{unit_at}
 use Rattle.net_model.specs.Loops.{GoesForward, HasRanks, IsBackArc, IsHeader, IsInBody, IsInnermost, IsNamedBy}
 use Rattle.unit_graph.specs.declared.graph.Graph.{Graph}
 use Rattle.unit_graph.specs.declared.node.Unit.{Unit as Node}
@@ -17,16 +17,17 @@ use Rattle.loop_nest.specs.Arcs.{IsBack}
 use Rattle.loop_nest.specs.Bodies.{AreInner, Holds, IsInner}
 use Rattle.loop_nest.specs.Bounds.{Bounds, IsBySlot, IsOwn}
 use Rattle.loop_nest.specs.Listing.{IsHead}
-use Rattle.loop_nest.specs.Ranks.{AreRanks, number_of}
-use Rattle.loop_nest.specs.Table.{IsMet, IsReverse, IsStep}
+use Rattle.step_table.specs.Numbers.{number_of}
+use Rattle.loop_nest.specs.Ranks.{AreRanks}
+use Rattle.step_table.specs.Table.{IsMet, IsReverse, IsStep}
 use Rattle.loop_nest.proofs.Bounding.{node_is, place_is}
 use Rattle.loop_nest.proofs.Bridge.{arc_back, back_arc, count_is, goes_at, goes_step, is_node, IsLaid, place_at, reached_at, same_at, step_goes}
 use Rattle.loop_nest.proofs.Dominance.{body-header, goes-reached, header-reached}
 use Rattle.loop_nest.proofs.ForwardWays.{AreToldApart}
 use Rattle.loop_nest.proofs.Innermost.{innermost-of, innermost-one}
 use Rattle.loop_nest.proofs.Irreducibles.{AreListed}
-use Rattle.loop_nest.proofs.Meeting.{a_step, step_among}
-use Rattle.loop_nest.proofs.Positions.{Rises, same_place}
+use Rattle.step_table.proofs.Meeting.{a_step, step_among}
+use Rattle.step_table.proofs.Positions.{Rises, same_place}
 use Rattle.loop_nest.proofs.Removing.{falling_met}
 
 pub record IsRegular (image : Image) (entry : ℕ) (graph : Graph) (addresses : List ℕ) (table reverse sources : List (List ℕ))
@@ -311,14 +312,14 @@ named_bounds image entry graph addresses table reverse sources ranks start inner
       kind = named.bounds;
       named = by_case p node there same inner
           (is.described.slot ∙ ap (λ (u : CodeUnit). is_some u.slot)
-          (same_unit is.unit named.unit (subst (λ (x : ℕ). content_at image x ≡ Stands is.unit) same is.stands) named.stands))
+          (same_unit is.unit named.unit (subst (λ (x : ℕ). unit_at image x ≡ Stands is.unit) same is.stands) named.stands))
           named.there;
     }
   where
     same_stands : (u v : CodeUnit) → Stands u ≡ Stands v → u ≡ v
     same_stands u v e = cc
 
-    same_unit : (u v : CodeUnit) → content_at image named.address ≡ Stands u → content_at image named.address ≡ Stands v → u ≡ v
+    same_unit : (u v : CodeUnit) → unit_at image named.address ≡ Stands u → unit_at image named.address ≡ Stands v → u ≡ v
     same_unit u v h k = same_stands u v (sym h ∙ k)
 
     by_case : (p : ℕ) (node : Node) → slice_get graph.units p ≡ Some node → node.address ≡ named.address →

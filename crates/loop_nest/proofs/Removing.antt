@@ -8,13 +8,14 @@ use Rattle.std.proofs.lemmas.Option.{slice_get-get_or}
 use Rattle.std.proofs.lemmas.List.Elements.{Contains-append_left, Contains-push, Contains-push_cases}
 use Rattle.loop_nest.specs.declared.removal.Arcs.{Arcs}
 use Rattle.loop_nest.specs.Arcs.{AreArcs, AreBacksTo, Crosses, HasCrossing, IsBack}
-use Rattle.loop_nest.specs.Ranks.{AreRanks, IsHigh, number_of}
-use Rattle.loop_nest.specs.Search.{IsSeen, SeesMet}
-use Rattle.loop_nest.specs.Table.{IsMet, IsReverse, IsStep}
-use Rattle.loop_nest.proofs.Meeting.{a_step, step_among}
-use Rattle.loop_nest.proofs.Places.{place_cases, place_last, place_left}
-use Rattle.loop_nest.proofs.Reversing.{from_within}
-use Rattle.loop_nest.proofs.Seen.{in_none}
+use Rattle.step_table.specs.Numbers.{number_of}
+use Rattle.loop_nest.specs.Ranks.{AreRanks, IsHigh}
+use Rattle.step_table.specs.Search.{IsSeen, SeesMet}
+use Rattle.step_table.specs.Table.{IsMet, IsReverse, IsStep}
+use Rattle.step_table.proofs.Meeting.{a_step, step_among}
+use Rattle.step_table.proofs.Places.{place_cases, place_last, place_left}
+use Rattle.step_table.proofs.Reversing.{from_within}
+use Rattle.step_table.proofs.Seen.{in_none}
 
 -- What holds of the items up to one, and of one more.
 pub all_more : (P : ℕ → Type 0) (xs : List ℕ) (i : ℕ) → i < length xs → ((x : ℕ) → Contains (take i xs) x → P x) →

@@ -4,9 +4,10 @@ use Rattle.std.specs.Prelude.{slice_get}
 use Rattle.std.proofs.Math.ListN.{length-set}
 use Rattle.std.proofs.lemmas.Bool.{cases_eq}
 use Rattle.std.proofs.lemmas.Option.{same_Some}
-use Rattle.loop_nest.specs.Ranks.{Falls, IsFalling, IsHigh, IsPlaced, IsRanked, IsSettled, IsWalk, number_of}
-use Rattle.loop_nest.specs.Table.{IsStep}
-use Rattle.loop_nest.proofs.Places.{number_other, number_same, place_before, place_cases, place_last, place_left, place_within, zeros_same}
+use Rattle.step_table.specs.Numbers.{number_of}
+use Rattle.loop_nest.specs.Ranks.{Falls, IsFalling, IsHigh, IsPlaced, IsRanked, IsSettled, IsWalk}
+use Rattle.step_table.specs.Table.{IsStep}
+use Rattle.step_table.proofs.Places.{number_other, number_same, place_before, place_cases, place_last, place_left, place_within, zeros_same}
 use Rattle.loop_nest.proofs.Walking.{falling_kept, high_kept}
 
 -- The last position of the trail gets its rank.

@@ -4,9 +4,10 @@ use Rattle.std.specs.Prelude.{slice_get}
 use Rattle.std.proofs.Math.ListN.{length-set}
 use Rattle.std.proofs.lemmas.Bool.{cases_eq}
 use Rattle.std.proofs.lemmas.Option.{same_Some}
-use Rattle.loop_nest.specs.Ranks.{Falls, IsFalling, IsHigh, IsPlaced, IsRanked, IsSettled, IsWalk, number_of}
-use Rattle.loop_nest.specs.Table.{IsStep}
-use Rattle.loop_nest.proofs.Places.{number_other, number_same, place_cases, place_last, place_left, place_within, zeros_fewer}
+use Rattle.step_table.specs.Numbers.{number_of}
+use Rattle.loop_nest.specs.Ranks.{Falls, IsFalling, IsHigh, IsPlaced, IsRanked, IsSettled, IsWalk}
+use Rattle.step_table.specs.Table.{IsStep}
+use Rattle.step_table.proofs.Places.{number_other, number_same, place_cases, place_last, place_left, place_within, zeros_fewer}
 
 -- A trail keeps its height where no number falls below the floor.
 pub high_kept : (table : List (List ℕ)) (numbers later : List ℕ) (floor entry position : ℕ) →

@@ -3,9 +3,9 @@ use Rattle.std.specs.Prelude.{◌≡◌, ℕ, ◌<◌, ◌≤◌, List, [], ◌�
 use Rattle.std.specs.Bool.{OnTrue, OnFalse}
 use Rattle.loop_nest.specs.declared.removal.Arcs.{Arcs}
 use Rattle.loop_nest.specs.declared.removal.Backs.{Backs}
-use Rattle.loop_nest.specs.Ranks.{number_of}
-use Rattle.loop_nest.specs.Search.{IsSeen}
-use Rattle.loop_nest.specs.Table.{IsMet, IsStep}
+use Rattle.step_table.specs.Numbers.{number_of}
+use Rattle.step_table.specs.Search.{IsSeen}
+use Rattle.step_table.specs.Table.{IsMet, IsStep}
 
 -- A back arc: its source isn't met from the entry once its header is barred.
 pub record IsBack (table : List (List ℕ)) (entry from header : ℕ) : Type 0 where

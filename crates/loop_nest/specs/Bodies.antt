@@ -1,8 +1,8 @@
 -- The bodies of headers, and which of the headers is the innermost one, by the positions.
 use Rattle.std.specs.Prelude.{◌≡◌, ℕ, ◌<◌, ◌≤◌, ◌⊎◌, List, length, Contains, Option, Some, None, Bool, slice_get}
-use Rattle.loop_nest.specs.Ranks.{number_of}
-use Rattle.loop_nest.specs.Search.{IsSeen}
-use Rattle.loop_nest.specs.Table.{IsMet}
+use Rattle.step_table.specs.Numbers.{number_of}
+use Rattle.step_table.specs.Search.{IsSeen}
+use Rattle.step_table.specs.Table.{IsMet}
 
 -- The body of a header: itself, and what is met from the sources of its back arcs backwards, without it.
 pub record IsBody (reverse : List (List ℕ)) (sources : List ℕ) (header : ℕ) (inside : List Bool) : Type 0 where

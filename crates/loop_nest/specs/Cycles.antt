@@ -1,6 +1,7 @@
 -- Cycles of steps that are no back arcs, by the positions.
 use Rattle.std.specs.Prelude.{◌≡◌, ℕ, ◌<◌, ◌↔◌, List, length, Contains, Option, Some, None, slice_get}
-use Rattle.loop_nest.specs.Table.{IsMet, IsStep}
+use Rattle.step_table.specs.Cycles.{IsFirstCyclic}
+use Rattle.step_table.specs.Table.{IsStep}
 
 -- The table has just the steps of another one that are no back arcs. These are listed by their headers.
 pub record IsForward (table sources forward : List (List ℕ)) : Type 0 where
@@ -13,18 +14,6 @@ pub record IsForward (table sources forward : List (List ℕ)) : Type 0 where
 abbrev pub AreForward : (sources : List (List ℕ)) → (from : ℕ) → (steps list : List ℕ) → Type 0
 AreForward sources from steps list =
     (to : ℕ) → Contains list to ↔ (Contains steps to × (IsStep sources to from → ⊥))
-
--- A position is met from its own steps.
-pub record IsCyclic (table : List (List ℕ)) (position : ℕ) : Type 0 where
-  pub steps : List ℕ
-  pub there : slice_get table position ≡ Some steps
-  pub met : IsMet table steps (length table) position
-
--- The least position of a cycle, or none.
-abbrev pub IsFirstCyclic : List (List ℕ) → Option ℕ → Type 0
-IsFirstCyclic table None = (position : ℕ) → position < length table → IsCyclic table position → ⊥
-IsFirstCyclic table (Some first) =
-    IsCyclic table first × ((position : ℕ) → position < first → IsCyclic table position → ⊥)
 
 -- The least position of a cycle of steps that are no back arcs, or none.
 pub record IsFirstIrregular (table sources : List (List ℕ)) (found : Option ℕ) : Type 0 where

@@ -6,7 +6,6 @@ pub mod Cycles
 pub mod Listing
 pub mod Nests
 pub mod Plans
+pub mod Programs
 pub mod Ranks
-pub mod Rings
-pub mod Search
 pub mod Table

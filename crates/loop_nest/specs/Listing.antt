@@ -4,7 +4,7 @@ use Rattle.loop_nest.specs.declared.nest.Loop.{Loop}
 use Rattle.loop_nest.specs.declared.listing.Listed.{Listed}
 use Rattle.loop_nest.specs.declared.listing.Listed.TheVariants.{Loops, Unbounded}
 use Rattle.loop_nest.specs.Bodies.{Holds}
-use Rattle.loop_nest.specs.Search.{IsSeen}
+use Rattle.step_table.specs.Search.{IsSeen}
 
 -- The addresses at the first positions that were seen, rising.
 pub record IsListing (addresses : List ℕ) (inside : List Bool) (done : ℕ) (list : List ℕ) : Type 0 where

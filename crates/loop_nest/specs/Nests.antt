@@ -2,12 +2,9 @@
 use Rattle.std.specs.Prelude.{◌≡◌, ℕ, ◌<◌, List, [], ◌∷◌, map, All, AllPairs, Contains}
 use Rattle.elf_mips.specs.declared.image.Image.{Image}
 use Rattle.loop_nest.specs.declared.nest.Loop.{Loop}
-use Rattle.loop_nest.specs.declared.nest.Nests.{Nests}
 use Rattle.net_model.specs.declared.unit.CodeKind.{CodeKind}
 use Rattle.net_model.specs.declared.unit.CodeKind.TheVariants.{Irreducible, NoBound}
 use Rattle.net_model.specs.Loops.{HasRanks, IsHeader, IsInBody, IsIrreducible, IsLoopBound, IsUnbounded}
-use Rattle.unit_graph.specs.declared.fault.CodeFault.{CodeFault}
-use Rattle.unit_graph.specs.declared.fault.CodeFault.TheVariants.{Bad, Memory}
 
 -- A loop of the list is that of its header: its body, each unit once, and its bound.
 pub record IsLoop (image : Image) (entry : ℕ) (l : Loop) : Type 0 where
@@ -24,12 +21,6 @@ pub record IsNest (image : Image) (entry : ℕ) (loops : List Loop) : Type 0 whe
   pub whole : (header : ℕ) → IsHeader image entry header → Contains (map (λ (l : Loop). l.header) loops) header
   pub ranks : HasRanks image entry
 
--- The nests of a program's functions: its entry's.
-pub record AreNests (image : Image) (entry : ℕ) (nests : Nests) : Type 0 where
-  pub first : List Loop
-  pub alone : nests.nests ≡ first ∷ []
-  pub nest : IsNest image entry first
-
 -- The least unit on a cycle without back arcs.
 pub record IsFirstIrreducible (image : Image) (entry place : ℕ) : Type 0 where
   pub here : IsIrreducible image entry place
@@ -41,12 +32,8 @@ pub record IsFirstUnbounded (image : Image) (entry place : ℕ) : Type 0 where
   pub here : IsUnbounded image entry place
   pub least : (lesser : ℕ) → lesser < place → IsUnbounded image entry lesser → ⊥
 
--- What an error says of the loops; want of memory says nothing.
-abbrev pub TellsKind : Image → (entry : ℕ) → CodeKind → (place : ℕ) → Type 0
-TellsKind image entry Irreducible place = IsFirstIrreducible image entry place
-TellsKind image entry NoBound place = IsFirstUnbounded image entry place
-TellsKind image entry kind place = ⊥
-
-abbrev pub TellsFault : Image → ℕ → CodeFault → Type 0
-TellsFault image entry (Bad kind address) = TellsKind image entry kind address
-TellsFault image entry Memory = Unit {0}
+-- What is answered of a function's loops.
+abbrev pub TellsKind : Image → (function : ℕ) → CodeKind → (place : ℕ) → Type 0
+TellsKind image function Irreducible place = IsFirstIrreducible image function place
+TellsKind image function NoBound place = IsFirstUnbounded image function place
+TellsKind image function kind place = ⊥

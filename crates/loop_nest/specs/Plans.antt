@@ -18,7 +18,8 @@ use Rattle.loop_nest.specs.Cycles.{IsFirstIrregular}
 use Rattle.loop_nest.specs.Listing.{IsListed}
 use Rattle.loop_nest.specs.Nests.{IsNest, TellsKind}
 use Rattle.loop_nest.specs.Ranks.{AreRanks}
-use Rattle.loop_nest.specs.Table.{AreMet, IsReverse, IsTableOf, IsWithin}
+use Rattle.step_table.specs.Table.{AreMet, IsReverse, IsWithin}
+use Rattle.loop_nest.specs.Table.{IsTableOf}
 
 -- The plan of a graph.
 pub record IsPlan (graph : Graph) (plan : Plan) : Type 0 where

@@ -1,10 +1,7 @@
 -- How a search in depth numbers positions, and what is known of the numbers.
 use Rattle.std.specs.Prelude.{◌≡◌, ℕ, ◌+◌, ◌*◌, ◌<◌, ◌≤◌, ◌==◌, ◌⊎◌, List, length, Contains, slice_get, Some, None, Option, count_by, slice_index_or}
-use Rattle.loop_nest.specs.Table.{IsStep}
-
--- The number of a position.
-abbrev pub number_of : List ℕ → ℕ → ℕ
-number_of numbers position = slice_index_or numbers position 0
+use Rattle.step_table.specs.Numbers.{number_of}
+use Rattle.step_table.specs.Table.{IsStep}
 
 -- A trail leads from the entry to a position, and no number on it lies below the floor.
 pub data IsHigh (table : List (List ℕ)) (numbers : List ℕ) (floor entry : ℕ) : ℕ → Type 0 where

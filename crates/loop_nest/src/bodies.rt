@@ -2,10 +2,10 @@
 
 ghost use Rattle.std.specs.Prelude.{◌≡◌, ℕ, ◌<◌, ◌≤◌, All, List, length, replicate, None, Some, IfOk, OnOk, IfSome, slice_get, Option};
 ghost use Rattle.loop_nest.specs.Bodies.{AreBelow, AreInner, AreNoted, IsBody, IsLesser, IsNoted};
-ghost use Rattle.loop_nest.specs.Table.{IsWithin};
+ghost use Rattle.step_table.specs.Table.{IsWithin};
 
-use crate::search::{met_from, steps_at};
 use std::alloc::{AllocError, Global};
+use step_table::{met_from, steps_at};
 use wcet_io::List;
 
 /// Of each position whether it lies in the body of a header, whose back arcs come from the sources.

@@ -6,9 +6,9 @@ ghost use Rattle.loop_nest.specs.Bounds.{AreBounds, IsBySlot, IsJust, IsLesserOf
 ghost use Rattle.unit_graph.specs.declared.node.Unit.{Unit};
 ghost use Rattle.elf_mips.specs.declared.mark.Mark.{Mark};
 
-use crate::table::position_of;
 use elf_mips::Mark;
 use std::alloc::{AllocError, Global};
+use step_table::position_of;
 use unit_graph::Unit;
 
 /// The innermost header of the unit at an address.

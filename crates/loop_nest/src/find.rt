@@ -1,16 +1,16 @@
 //! Finding the loops of functions.
 
-ghost use Rattle.std.specs.Prelude.{ℕ, IfOk, IfErr};
+ghost use Rattle.std.specs.Prelude.{◌≡◌, ◌⊎◌, [], ℕ, All, IfErr, IfOk, IfSome, Some};
 ghost use Rattle.net_model.specs.Faults.{HasNoFault};
 ghost use Rattle.unit_graph.specs.Graphs.{AreGraphs, IsGraph};
-ghost use Rattle.loop_nest.specs.Nests.{AreNests, TellsFault};
+ghost use Rattle.unit_graph.specs.Firsts.{IsNoEarlier};
 
 use crate::listing::Listed;
 use crate::nest::{Loop, Nests};
 use crate::plan::{Found, find_in, plan_of};
 use elf_mips::Image;
 use std::alloc::{AllocError, Global};
-use unit_graph::{CodeFault, CodeKind, Graph, Graphs};
+use unit_graph::{CodeFault, CodeKind, Graph, Graphs, Offence, earlier};
 use wcet_io::List;
 
 /// What a function's loops come to.
@@ -23,6 +23,7 @@ enum Answer {
 }
 
 ghost use Rattle.loop_nest.specs.Plans.{IsAnswer};
+ghost use Rattle.loop_nest.specs.Programs.{AreNests, IsFoundIn, TellsFault};
 
 /// The loops of a function, or their fault.
 fn answer_of(alloc: Global, graph: &Graph, image: &Image) -> Result<Answer, AllocError>
@@ -43,26 +44,60 @@ fn answer_of(alloc: Global, graph: &Graph, image: &Image) -> Result<Answer, Allo
     }
 }
 
-/// The loops of each function, with the bounds that the image's records give.
+/// The first one of two faults, where there may be one so far.
+fn first_of(first: Option<Offence>, offence: Offence) -> Offence
+    ensures either { (first ≡ Some result) ⊎ (result ≡ offence) }
+    ensures new { IsNoEarlier result offence.kind offence.place }
+    ensures old { IfSome first (λ other. IsNoEarlier result other.kind other.place) }
+{
+    match first {
+        Some(first) => earlier(first, offence),
+        None => offence,
+    }
+}
+
+/// Lists the loops of these functions, and gives the first fault.
+fn nests_in(
+    alloc: Global,
+    graphs: &[Graph],
+    image: &Image,
+    nests: &mut List<List<Loop>>,
+) -> Result<Option<Offence>, AllocError>
+    requires graphs { All (λ g. IsGraph image.now g.entry g) graphs.now }
+    requires empty { nests.old ≡ [] }
+    ensures { IfOk result (IsFoundIn image.now graphs.now nests.new) }
+{
+    let mut first = None;
+    for graph in graphs {
+        let (kind, place) = match answer_of(alloc, graph, image)? {
+            Answer::Loops(loops) => {
+                nests.push(loops)?;
+                continue;
+            }
+            Answer::Fault(kind, place) => (kind, place),
+        };
+        first = Some(first_of(first, Offence { kind, place }));
+    }
+    Ok(first)
+}
+
+/// The loops of each function, with the bounds that the image's records give, in the order of the graphs.
 ///
-/// `Bad` is the least unit on a cycle that isn't entered at one header alone, or else the least
-/// header of a loop without a bound. It takes time in proportion to the headers times the arcs of a
+/// `Bad` is the least unit of some function on a cycle that isn't entered at one header alone, or else the
+/// least header of a loop without a bound. It takes time in proportion to the headers times the arcs of a
 /// function at most, and to its units times its arcs where it has a cycle that isn't entered at one header
 /// alone.
 pub fn find_loops(alloc: Global, graphs: &Graphs, image: &Image) -> Result<Nests, CodeFault>
     requires graphs { (entry : ℕ) × AreGraphs image.now entry graphs.now × HasNoFault image.now entry }
-    ensures nests { IfOk result (λ nests. (entry : ℕ) → AreGraphs image.now entry graphs.now → AreNests image.now entry nests) }
+    ensures nests { IfOk result (AreNests image.now graphs.now) }
     ensures bad { IfErr result (λ fault. (entry : ℕ) → AreGraphs image.now entry graphs.now → TellsFault image.now entry fault) }
 {
-    let [graph] = graphs.graphs.as_slice() else {
-        unreachable!();
-    };
-    match answer_of(alloc, graph, image)? {
-        Answer::Loops(loops) => {
-            let mut nests = List::new(alloc);
-            nests.push(loops)?;
-            Ok(Nests { nests })
-        }
-        Answer::Fault(kind, address) => Err(CodeFault::Bad { kind, address }),
+    let mut nests = List::new(alloc);
+    if let Some(first) = nests_in(alloc, graphs.graphs.as_slice(), image, &mut nests)? {
+        return Err(CodeFault::Bad {
+            kind: first.kind,
+            address: first.place,
+        });
     }
+    Ok(Nests { nests })
 }

@@ -1,12 +1,12 @@
 //! Finding a cycle without back arcs.
 
 ghost use Rattle.std.specs.Prelude.{◌≡◌, ℕ, ◌<◌, ◌↔◌, All, Contains, List, length, IfOk, IsTrue};
-ghost use Rattle.loop_nest.specs.Cycles.{AreForward, IsCyclic, IsFirstCyclic, IsFirstIrregular, IsForward};
-ghost use Rattle.loop_nest.specs.Table.{IsStep, IsWithin};
+ghost use Rattle.step_table.specs.Cycles.{IsCyclic, IsFirstCyclic};
+ghost use Rattle.loop_nest.specs.Cycles.{AreForward, IsFirstIrregular, IsForward};
+ghost use Rattle.step_table.specs.Table.{IsStep, IsWithin};
 
-use crate::rings::cyclic_positions;
-use crate::search::steps_at;
 use std::alloc::{AllocError, Global};
+use step_table::{first_cyclic, steps_at};
 use wcet_io::List;
 
 /// Whether the table has a step.
@@ -52,20 +52,6 @@ fn forward_of(
         forward.push(forward_steps(alloc, sources, from, steps_at(table, from))?)?;
     }
     Ok(forward)
-}
-
-/// The least position of a cycle.
-fn first_cyclic(alloc: Global, table: &[List<usize>]) -> Result<Option<usize>, AllocError>
-    requires { IsWithin table.now }
-    ensures { IfOk result (IsFirstCyclic table.now) }
-{
-    let marks = cyclic_positions(alloc, table)?;
-    for position in 0..table.len() {
-        if marks[position] {
-            return Ok(Some(position));
-        }
-    }
-    Ok(None)
 }
 
 /// The least position of a cycle without back arcs.

@@ -1,12 +1,12 @@
 //! The list of a function's loops.
 
 ghost use Rattle.std.specs.Prelude.{◌≡◌, ℕ, ◌<◌, All, AllPairs, List, length, IfOk, Contains, Some, slice_get, Option};
-ghost use Rattle.loop_nest.specs.Table.{IsWithin};
+ghost use Rattle.step_table.specs.Table.{IsWithin};
 
 use crate::bodies::body_of;
 use crate::nest::Loop;
-use crate::search::steps_at;
 use std::alloc::{AllocError, Global};
+use step_table::steps_at;
 use wcet_io::List;
 
 /// The loops of a function, or the first header without a bound.

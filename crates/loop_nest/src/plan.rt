@@ -10,9 +10,10 @@ use crate::irreducible::first_irregular;
 use crate::listing::{Listed, list_loops};
 use crate::ranks::ranks_of;
 use crate::removal::{Backs, backs_of};
-use crate::table::{addresses_of, position_of, reverse_of, table_of};
+use crate::table::{addresses_of, table_of};
 use elf_mips::Mark;
 use std::alloc::{AllocError, Global};
+use step_table::{position_of, reverse_of};
 use unit_graph::Graph;
 use wcet_io::List;
 
@@ -41,7 +42,7 @@ pub enum Found {
 ghost use Rattle.loop_nest.specs.Arcs.{AreBacks};
 ghost use Rattle.loop_nest.specs.Plans.{AreRegular, IsFound, IsPlan};
 ghost use Rattle.loop_nest.specs.Ranks.{AreRanks};
-ghost use Rattle.loop_nest.specs.Table.{IsWithin};
+ghost use Rattle.step_table.specs.Table.{IsWithin};
 
 /// The plan of a graph, in time in proportion to its arcs but for a search of the addresses for each.
 pub fn plan_of(alloc: Global, graph: &Graph) -> Result<Plan, AllocError>

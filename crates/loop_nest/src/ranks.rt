@@ -1,11 +1,12 @@
 //! Ranks for the positions of a table of steps, by a search in depth.
 
 ghost use Rattle.std.specs.Prelude.{◌≡◌, ℕ, ◌+◌, ◌<◌, ◌∷◌, ◌++◌, [], All, List, length, replicate, IfOk, OnOk};
-ghost use Rattle.loop_nest.specs.Ranks.{AreRanks, IsFirstNew, IsWalk, number_of};
-ghost use Rattle.loop_nest.specs.Table.{AreMet, IsStep, IsWithin};
+ghost use Rattle.step_table.specs.Numbers.{number_of};
+ghost use Rattle.loop_nest.specs.Ranks.{AreRanks, IsFirstNew, IsWalk};
+ghost use Rattle.step_table.specs.Table.{AreMet, IsStep, IsWithin};
 
-use crate::search::steps_at;
 use std::alloc::{AllocError, Global};
+use step_table::steps_at;
 use wcet_io::List;
 
 /// The first position of these to which the search hasn't come.

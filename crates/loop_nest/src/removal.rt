@@ -2,12 +2,13 @@
 
 ghost use Rattle.std.specs.Prelude.{◌≡◌, ◌<◌, ◌∷◌, [], ◌↔◌, ℕ, All, Contains, length, IfOk, false};
 ghost use Rattle.std.specs.Bool.{OnFalse};
-ghost use Rattle.loop_nest.specs.Ranks.{AreRanks, number_of};
-ghost use Rattle.loop_nest.specs.Search.{IsSeen};
-ghost use Rattle.loop_nest.specs.Table.{IsReverse, IsWithin};
+ghost use Rattle.step_table.specs.Numbers.{number_of};
+ghost use Rattle.loop_nest.specs.Ranks.{AreRanks};
+ghost use Rattle.step_table.specs.Search.{IsSeen};
+ghost use Rattle.step_table.specs.Table.{IsReverse, IsWithin};
 
-use crate::search::{met_from, steps_at};
 use std::alloc::{AllocError, Global};
+use step_table::{met_from, steps_at};
 use wcet_io::List;
 
 /// The back arcs to one header.

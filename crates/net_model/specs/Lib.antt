@@ -1,9 +1,12 @@
 -- What an image's code means as a graph.
 pub mod Units
 pub mod Onward
-pub mod Reached
+pub mod Targets
+pub mod Flow
+pub mod Functions
 pub mod Faults
+pub mod Loops
+pub mod Reached
 pub mod Ways
 pub mod Net
-pub mod Loops
 pub mod Moments

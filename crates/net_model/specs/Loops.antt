@@ -4,9 +4,8 @@ use Rattle.elf_mips.specs.declared.image.Image.{Image}
 use Rattle.elf_mips.specs.declared.mark.Mark.{Mark}
 use Rattle.net_model.specs.declared.unit.CodeUnit.{CodeUnit}
 use Rattle.net_model.specs.declared.unit.Content.TheVariants.{Unit as Stands}
-use Rattle.net_model.specs.Units.{content_at}
-use Rattle.net_model.specs.Reached.{IsReached}
-use Rattle.net_model.specs.Ways.{GoesOn}
+use Rattle.net_model.specs.Functions.{GoesOn, IsReached}
+use Rattle.net_model.specs.Targets.{unit_at}
 
 -- The addresses that are still reached from the entry once a header is removed.
 pub data IsReachedWithout (image : Image) (entry header : ℕ) : ℕ → Type 0 where
@@ -65,7 +64,7 @@ pub record IsNamedBy (image : Image) (entry : ℕ) (mark : Mark) (header : ℕ) 
   pub address : ℕ
   pub reached : IsReached image entry address
   pub unit : CodeUnit
-  pub stands : content_at image address ≡ Stands unit
+  pub stands : unit_at image address ≡ Stands unit
   pub there : (mark.address ≡ address) ⊎ ((is_some unit.slot ≡ true) × (mark.address ≡ address + 4))
   pub innermost : IsInnermost image entry header address
 

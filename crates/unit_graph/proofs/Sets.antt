@@ -1,9 +1,13 @@
--- The set of two numbers.
-use Rattle.std.proofs.Common.{ℕ, ◌<◌, [], ◌∷◌, All, refl, arith}
-use Rattle.std.specs.Prelude.{AllPairs, Contains}
-use Rattle.std.proofs.lemmas.List.Elements.{All-cons, All-nil}
+-- Sets: of two numbers, and of what was seen.
+use Rattle.std.proofs.Common.{◌≡◌, ℕ, ◌<◌, Bool, true, false, List, [], ◌∷◌, All, refl, arith, sym, subst, inl, inr, if◌then◌else◌, Result, Ok, Err}
+use Rattle.std.specs.Prelude.{AllPairs, Contains, IfOk}
+use Rattle.std.specs.List.Sorted.{IsStrictlySortedBy}
+use Rattle.std.specs.Ordering.{nat_cmp}
+use Rattle.std.proofs.lemmas.Map.Keys.{below_from_sorted}
+use Rattle.std.proofs.lemmas.List.Elements.{All-cons, All-contains_itself, All-nil, All-weaker}
 use Rattle.std.proofs.lemmas.List.Kept.{AllPairs-cons}
-use Rattle.unit_graph.specs.Graphs.{IsSetOf}
+use Rattle.unit_graph.specs.Graphs.{AreJust, IsSetOf}
+use Rattle.unit_graph.specs.Search.{Sees}
 
 rising : (a b : ℕ) → a < b → AllPairs (λ (x y : ℕ). x < y) (a ∷ b ∷ [])
 rising a b less =
@@ -33,3 +37,63 @@ IsSetOf-falling a b less = record {
   sound = both (Contains (a ∷ b ∷ [])) b a (second a b) (first a b);
   whole = both (Contains (b ∷ a ∷ [])) a b (second b a) (first b a);
 }
+
+-- What was seen, where nothing was seen before.
+pub IsSetOf-seen : (given xs none nobody keys waiting items : List ℕ) → none ≡ [] → IsStrictlySortedBy nat_cmp none →
+    Sees (Contains xs) none nobody keys waiting → ((x : ℕ) → Contains xs x → Contains given x) →
+    ((x : ℕ) → Contains given x → Contains xs x) → items ≡ keys → IsSetOf given items
+IsSetOf-seen given xs none nobody keys waiting items empty sorted sees into back e =
+    subst (IsSetOf given) (sym e) (record {
+      rising = λ i j d less inside. below_from_sorted keys i j d (sees.rising sorted) less inside;
+      sound = All-weaker (Contains keys) (Contains given) sound keys (All-contains_itself keys);
+      whole = All-weaker (Contains given) (Contains keys) (λ x h. sees.there x (back x h)) given (All-contains_itself given);
+    })
+  where
+    in_none : (x : ℕ) → Contains [] x → ⊥
+    in_none x (k, inside, same) = omega arith
+
+    sound : (x : ℕ) → Contains keys x → Contains given x
+    sound x h = elim (sees.only x h) [
+      | inl p ↦ absurd (in_none x (subst (λ (ys : List ℕ). Contains ys x) empty p))
+      | inr q ↦ into x q
+    ]
+
+-- A set that is empty where a test holds, and the other set where it doesn't.
+pub IsSetOf-unless : (b : Bool) (xs ys : List ℕ) → b ≡ false → IsSetOf xs ys → IsSetOf (if b then [] else xs) ys
+IsSetOf-unless true xs ys e set = cc
+IsSetOf-unless false xs ys e set = set
+
+pub IfOk-set : {E : Type 0} (xs ys : List ℕ) (result : Result (List ℕ) E) → IfOk result (λ (list : List ℕ). list ≡ ys) →
+    IsSetOf xs ys → IfOk result (IsSetOf xs)
+IfOk-set xs ys (Ok list) e set = subst (IsSetOf xs) (sym e) set
+IfOk-set xs ys (Err error) e set = tt
+
+-- The same where the numbers are said otherwise.
+pub AreJust-seen : (these : ℕ → Type 0) (none nobody keys waiting items : List ℕ) → none ≡ [] → IsStrictlySortedBy nat_cmp none →
+    Sees these none nobody keys waiting → items ≡ keys → AreJust these items
+AreJust-seen these none nobody keys waiting items empty sorted sees e =
+    subst (AreJust these) (sym e) (record {
+      rising = λ i j d less inside. below_from_sorted keys i j d (sees.rising sorted) less inside;
+      sound = λ x h. elim (sees.only x h) [
+        | inl p ↦ absurd (in_none x (subst (λ (ys : List ℕ). Contains ys x) empty p))
+        | inr q ↦ q
+      ];
+      whole = sees.there;
+    })
+  where
+    in_none : (x : ℕ) → Contains [] x → ⊥
+    in_none x (k, inside, same) = omega arith
+
+pub AreJust-same : (these others : ℕ → Type 0) (items : List ℕ) → ((x : ℕ) → these x → others x) → ((x : ℕ) → others x → these x) →
+    AreJust these items → AreJust others items
+AreJust-same these others items into back are = record {
+  rising = are.rising;
+  sound = λ x h. into x (are.sound x h);
+  whole = λ x h. are.whole x (back x h);
+}
+
+pub IfOk-just : {V E : Type 0} (items : V → List ℕ) (these : ℕ → Type 0) (none nobody keys waiting : List ℕ) (result : Result V E) → none ≡ [] →
+    IsStrictlySortedBy nat_cmp none → Sees these none nobody keys waiting →
+    IfOk result (λ (v : V). items v ≡ keys) → IfOk result (λ (v : V). AreJust these (items v))
+IfOk-just items these none nobody keys waiting (Ok v) empty sorted sees e = AreJust-seen these none nobody keys waiting (items v) empty sorted sees e
+IfOk-just items these none nobody keys waiting (Err error) empty sorted sees e = tt

@@ -3,7 +3,9 @@ use Rattle.std.specs.Prelude.{◌≡◌, ℕ, ◌<◌, ◌≤◌, ◌⊎◌, Lis
 use Rattle.net_model.specs.declared.unit.CodeKind.{CodeKind}
 use Rattle.net_model.specs.declared.unit.Content.{Content}
 use Rattle.net_model.specs.declared.unit.Content.TheVariants.{Unit as Stands, Fault}
-use Rattle.net_model.specs.Faults.{rank}
+use Rattle.elf_mips.specs.declared.image.Image.{Image}
+use Rattle.net_model.specs.Faults.{IsCode, rank}
+use Rattle.net_model.specs.Targets.{unit_at}
 use Rattle.unit_graph.specs.declared.first.Offence.{Offence}
 use Rattle.unit_graph.specs.declared.reached.Reached.{Reached}
 
@@ -30,3 +32,16 @@ abbrev pub IsAmong : Option Offence → List Reached → Type 0
 IsAmong None reached = Unit {0}
 IsAmong (Some offence) reached =
     (r : Reached) × Contains reached r × (r.content ≡ Fault offence.kind offence.place)
+
+-- An address that some function reaches has a fault of this kind at this place.
+pub record IsFaulty (image : Image) (entry : ℕ) (kind : CodeKind) (place : ℕ) : Type 0 where
+  pub address : ℕ
+  pub code : IsCode image entry address
+  pub faulty : unit_at image address ≡ Fault kind place
+
+-- The first of these faults, or none.
+abbrev pub IsFirstFaulty : Image → (entry : ℕ) → Option Offence → Type 0
+IsFirstFaulty image entry None = (kind : CodeKind) (place : ℕ) → IsFaulty image entry kind place → ⊥
+IsFirstFaulty image entry (Some offence) =
+    IsFaulty image entry offence.kind offence.place
+    × ((kind : CodeKind) (place : ℕ) → IsFaulty image entry kind place → IsNoEarlier offence kind place)

@@ -43,8 +43,8 @@ fn comes_before(offence: Offence, other: Offence) -> bool
     own < others || own == others && offence.place < other.place
 }
 
-/// The first one of two faults.
-fn earlier(offence: Offence, other: Offence) -> Offence
+/// The first one of two faults: by its kind, then by its place.
+pub fn earlier(offence: Offence, other: Offence) -> Offence
     ensures either { (result ≡ offence) ⊎ (result ≡ other) }
     ensures first { IsNoEarlier result offence.kind offence.place }
     ensures second { IsNoEarlier result other.kind other.place }

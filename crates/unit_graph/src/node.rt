@@ -1,13 +1,21 @@
 //! The nodes of a function's graph.
 
-ghost use Rattle.std.specs.Prelude.{◌≡◌, All, IfOk};
+ghost use Rattle.std.specs.Prelude.{◌≡◌, ◌+◌, ◌<◌, ◌^◌, ℕ, All, Contains, IfOk, length};
 ghost use Rattle.std.specs.List.{AllZip, list_any};
+ghost use Rattle.elf_mips.specs.declared.image.Image.{Image};
+ghost use Rattle.unit_graph.specs.Flow.{Follows};
+ghost use Rattle.unit_graph.specs.Inference.{AreReturning};
+ghost use Rattle.unit_graph.specs.Rows.{AreRows, HasUnit};
 ghost use Rattle.unit_graph.specs.Ways.{IsPlaced, listed};
 
-use crate::reached::Reached;
-use crate::ways::{Ways, is_link_passed, load_of, onward, returns};
+use crate::flow::see_onward;
+use crate::rows::Row;
+use crate::search::{items_of, see_all};
+use crate::span::row_at;
+use crate::ways::{Ways, is_link_passed, load_of, returns};
 use net_model::{CodeUnit, Content};
 use std::alloc::{AllocError, Global};
+use std::collections::BTreeSet;
 use wcet_io::List;
 
 /// A unit of a function: a plain instruction, or a jump or branch together with its delay slot.
@@ -29,13 +37,12 @@ pub struct Unit {
     pub calls: List<u32>,
 }
 
-ghost use Rattle.unit_graph.specs.Graphs.{Describes};
-ghost use Rattle.unit_graph.specs.Nodes.{IsFaultless, IsNodeOf};
+ghost use Rattle.unit_graph.specs.Graphs.{AreJust, IsNodeAt};
+ghost use Rattle.unit_graph.specs.Nodes.{IsNodeOf};
 ghost use Rattle.unit_graph.specs.declared.node.Unit.{Unit};
-ghost use Rattle.unit_graph.specs.declared.reached.Reached.{Reached};
 
 /// The list of the addresses.
-fn list_of(alloc: Global, ways: Ways) -> Result<List<u32>, AllocError>
+pub fn list_of(alloc: Global, ways: Ways) -> Result<List<u32>, AllocError>
     ensures { IfOk result (λ list. list ≡ listed ways) }
 {
     let mut list = List::new(alloc);
@@ -50,34 +57,89 @@ fn list_of(alloc: Global, ways: Ways) -> Result<List<u32>, AllocError>
     Ok(list)
 }
 
-/// The node of the unit at an address.
-fn node_of(alloc: Global, address: u32, unit: &CodeUnit) -> Result<Unit, AllocError>
-    requires { IsPlaced unit.now address }
-    ensures address { IfOk result (λ node. node.address ≡ address) }
-    ensures described { IfOk result (λ node. Describes node unit.now) }
+/// The onward units of a row's unit.
+fn onward_of(alloc: Global, row: &Row, returning: &BTreeSet<u32>) -> Result<List<u32>, AllocError>
+    requires { 0 < length row.now.calls → row.now.address + 8 < 2 ^ 32 }
+    ensures { IfOk result (AreJust (Follows returning.now.keys row.now)) }
 {
+    let mut seen = BTreeSet::new(alloc);
+    let mut waiting = Vec::new(alloc);
+    see_onward(row, returning, &mut seen, &mut waiting)?;
+    let items = items_of(alloc, &seen)?;
+    Ok(List::from_vec(items))
+}
+
+/// A copy of what a row's unit calls.
+fn calls_of(alloc: Global, calls: &[u32]) -> Result<List<u32>, AllocError>
+    ensures { IfOk result (AreJust (Contains calls.now)) }
+{
+    let mut seen = BTreeSet::new(alloc);
+    let mut waiting = Vec::new(alloc);
+    see_all(calls, &mut seen, &mut waiting)?;
+    let items = items_of(alloc, &seen)?;
+    Ok(List::from_vec(items))
+}
+
+/// The node of a row's unit.
+fn node_of(
+    alloc: Global,
+    row: &Row,
+    unit: &CodeUnit,
+    returning: &BTreeSet<u32>,
+) -> Result<Unit, AllocError>
+    requires placed { IsPlaced unit.now row.now.address }
+    requires low { 0 < length row.now.calls → row.now.address + 8 < 2 ^ 32 }
+    ensures { IfOk result (IsNodeOf returning.now.keys row.now unit.now) }
+{
+    let onward = onward_of(alloc, row, returning)?;
+    let calls = calls_of(alloc, row.calls.as_slice())?;
     Ok(Unit {
-        address,
+        address: row.address,
         slot: unit.slot.is_some(),
         returns: returns(unit),
         skips: is_link_passed(&unit.instr),
-        load: load_of(unit, address),
-        onward: list_of(alloc, onward(unit, address))?,
-        calls: List::new(alloc),
+        load: load_of(unit, row.address),
+        onward,
+        calls,
     })
 }
 
-/// The nodes of what stands at these addresses.
-pub fn nodes_of(alloc: Global, reached: &[Reached]) -> Result<List<Unit>, AllocError>
-    requires { All IsFaultless reached.now }
-    ensures { IfOk result (AllZip IsNodeOf reached.now) }
+/// The node of the unit at an address.
+fn node_at(
+    alloc: Global,
+    rows: &[Row],
+    returning: &BTreeSet<u32>,
+    address: u32,
+) -> Result<Unit, AllocError>
+    requires rows { (image : Image) × (entry : ℕ) × AreRows image entry rows.now }
+    requires unit { HasUnit rows.now address }
+    ensures { IfOk result (λ node. (image : Image) (entry : ℕ) → AreRows image entry rows.now →
+        AreReturning image rows.now returning.now.keys → IsNodeAt image address node) }
+{
+    let Some(row) = row_at(rows, address) else {
+        unreachable!();
+    };
+    match &row.content {
+        Content::Unit(unit) => node_of(alloc, row, unit, returning),
+        Content::Fault { .. } => unreachable!(),
+    }
+}
+
+/// The nodes of the units at these addresses.
+pub fn nodes_of(
+    alloc: Global,
+    rows: &[Row],
+    returning: &BTreeSet<u32>,
+    addresses: &[u32],
+) -> Result<List<Unit>, AllocError>
+    requires rows { (image : Image) × (entry : ℕ) × AreRows image entry rows.now }
+    requires units { All (HasUnit rows.now) addresses.now }
+    ensures { IfOk result (λ nodes. (image : Image) (entry : ℕ) → AreRows image entry rows.now →
+        AreReturning image rows.now returning.now.keys → AllZip (IsNodeAt image) addresses.now nodes) }
 {
     let mut nodes = List::new(alloc);
-    for one in reached {
-        match one.content {
-            Content::Unit(unit) => nodes.push(node_of(alloc, one.address, &unit)?)?,
-            Content::Fault { .. } => unreachable!(),
-        }
+    for address in addresses {
+        nodes.push(node_at(alloc, rows, returning, *address)?)?;
     }
     Ok(nodes)
 }

@@ -3,11 +3,10 @@
 ghost use Rattle.std.specs.Prelude.{◌≡◌, All, IfOk, map};
 
 use crate::content::content_at;
-use crate::search::reached_addresses;
+use crate::search::{items_of, reached_addresses};
 use elf_mips::Image;
 use net_model::Content;
 use std::alloc::{AllocError, Global};
-use std::collections::BTreeSet;
 use wcet_io::List;
 
 /// An address that a function reaches, with the unit or the fault that stands there.
@@ -19,13 +18,6 @@ pub struct Reached {
 
 ghost use Rattle.unit_graph.specs.Contents.{AreReached, described};
 ghost use Rattle.unit_graph.specs.Nodes.{IsSound};
-
-/// The items of a set, rising.
-fn items_of(alloc: Global, set: &BTreeSet<u32>) -> Result<Vec<u32>, AllocError>
-    ensures { IfOk result (λ items. items.items ≡ set.now.keys) }
-{
-    set.iter().copied().collect(alloc)
-}
 
 /// These addresses, each with what stands there.
 fn contents_of(alloc: Global, image: &Image, addresses: &[u32]) -> Result<List<Reached>, AllocError>

@@ -24,7 +24,7 @@ ghost use Rattle.unit_graph.specs.Graphs.{IsSetOf};
 ghost use Rattle.unit_graph.specs.Ways.{IsPlaced, listed};
 
 /// Whether a branch may be taken: a register equals itself, and register 0 is zero.
-fn may_be_taken(op: BranchOp, rs: u32, rt: u32) -> bool
+pub fn may_be_taken(op: BranchOp, rs: u32, rt: u32) -> bool
     ensures { result ≡ may_be_taken op rs rt }
 {
     match op {
@@ -37,7 +37,7 @@ fn may_be_taken(op: BranchOp, rs: u32, rt: u32) -> bool
 }
 
 /// Whether a branch may be not taken.
-fn may_be_passed(op: BranchOp, rs: u32, rt: u32) -> bool
+pub fn may_be_passed(op: BranchOp, rs: u32, rt: u32) -> bool
     ensures { result ≡ may_be_passed op rs rt }
 {
     match op {
@@ -50,7 +50,7 @@ fn may_be_passed(op: BranchOp, rs: u32, rt: u32) -> bool
 }
 
 /// Whether a branch links, taken or not.
-fn branch_links(op: BranchOp) -> bool
+pub fn branch_links(op: BranchOp) -> bool
     ensures { result ≡ branch_links op }
 {
     match op {
@@ -206,7 +206,7 @@ fn pair(first: u32, second: u32) -> Ways
 
 /// The ways of a branch: to its target where it may be taken, behind its slot where it may be not
 /// taken.
-fn branch_ways(op: BranchOp, rs: u32, rt: u32, offset: u16, address: u32) -> Ways
+pub fn branch_ways(op: BranchOp, rs: u32, rt: u32, offset: u16, address: u32) -> Ways
     requires { address + 8 < 2 ^ 32 }
     ensures { IsSetOf (branch_ways op rs rt offset address) (listed result) }
 {

@@ -10,7 +10,7 @@ use Rattle.loop_nest.specs.Nests.{IsLoop, IsNest}
 use Rattle.loop_nest.specs.declared.nest.Loop.{Loop}
 use Rattle.loop_nest.proofs.Dominance.{body-reached, header-reached}
 use Rattle.loop_nest.proofs.NestLaws.{among}
-use Rattle.loop_nest.proofs.Seen.{slice_get-set_other, slice_get-set_same, slice_get-replicate}
+use Rattle.step_table.proofs.Seen.{slice_get-set_other, slice_get-set_same, slice_get-replicate}
 use Rattle.net_model.specs.Loops.{IsInBody}
 use Rattle.net_model.specs.Reached.{IsReached}
 use Rattle.unit_graph.specs.Contents.{AreReached}

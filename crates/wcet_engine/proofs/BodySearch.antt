@@ -8,7 +8,7 @@ use Rattle.std.proofs.lemmas.Bool.{cases_lt}
 use Rattle.std.proofs.lemmas.List.Sorted.{searched}
 use Rattle.std.proofs.lemmas.Option.{get_or_from_slice_get, slice_get-get_or, slice_get_within}
 use Rattle.loop_nest.specs.declared.nest.Loop.{Loop}
-use Rattle.loop_nest.proofs.Positions.{contains_at, place_of, rises_between}
+use Rattle.step_table.proofs.Positions.{contains_at, place_of, rises_between}
 use Rattle.wcet_engine.specs.Around.{IsInner}
 
 found : (body : List ℕ) (a : ℕ) (result : Result ℕ ℕ) →

@@ -9,7 +9,7 @@ use Rattle.flow_net.specs.declared.net.Net.{Net}
 use Rattle.loop_nest.specs.Nests.{IsLoop, IsNest}
 use Rattle.loop_nest.specs.declared.nest.Loop.{Loop}
 use Rattle.loop_nest.proofs.Dominance.{body-header, same_or_other}
-use Rattle.loop_nest.proofs.Positions.{place_of}
+use Rattle.step_table.proofs.Positions.{place_of}
 use Rattle.net_model.specs.Loops.{IsHeader, IsInBody, IsLoopBound, head}
 use Rattle.net_model.specs.Net.{HasLoops, IsInstance, IsLoopAt, IsOuterOf, IsPlaceAt, IsScopeOf}
 use Rattle.unit_graph.specs.Contents.{Rise}

@@ -25,6 +25,7 @@ use Rattle.net_model.specs.declared.unit.Content.TheVariants.{Unit as Stands, Fa
 use Rattle.net_model.specs.Units.{content_at}
 use Rattle.net_model.specs.Onward.{calls, is_indirect, onward, returns}
 use Rattle.net_model.specs.Reached.{IsReached, next}
+use Rattle.net_model.proofs.Plain.{plain-offends}
 use Rattle.net_model.specs.Faults.{HasNoFault}
 use Rattle.net_model.specs.Net.{IsNet, IsPlaceAt}
 use Rattle.net_model.proofs.Contents.{IsFetched-unit}
@@ -67,7 +68,7 @@ pub stands-at : (image : Image) (entry address : ℕ) → HasNoFault image entry
     (content : Content) → content_at image address ≡ content → (unit : CodeUnit) × (content_at image address ≡ Stands unit)
 stands-at image entry address faultless reached (Stands unit) same = (unit, same)
 stands-at image entry address faultless reached (Fault kind place) same =
-    absurd (faultless kind place (record { address = address; reached = reached; faulty = same }))
+    absurd (faultless kind place (plain-offends image entry address kind place reached same))
 
 no_return : (image : Image) (entry : ℕ) → All EndsLow image.segments → HasNoFault image entry → IsReached image entry return_address → ⊥
 no_return image entry low faultless reached =

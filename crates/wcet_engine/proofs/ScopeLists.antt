@@ -6,8 +6,8 @@ use Rattle.std.proofs.lemmas.Option.{same_Some, slice_get_within}
 use Rattle.flow_net.specs.declared.net.LoopInst.{LoopInst}
 use Rattle.flow_net.specs.declared.net.Place.{Place}
 use Rattle.loop_nest.specs.declared.nest.Loop.{Loop}
-use Rattle.loop_nest.proofs.Places.{place_cases}
-use Rattle.loop_nest.proofs.Seen.{slice_get-set_other, slice_get-set_same}
+use Rattle.step_table.proofs.Places.{place_cases}
+use Rattle.step_table.proofs.Seen.{slice_get-set_other, slice_get-set_same}
 use Rattle.unit_graph.specs.Contents.{Rise}
 use Rattle.unit_graph.specs.declared.reached.Reached.{Reached}
 use Rattle.wcet_engine.specs.Around.{AreInstances, AreNearest, AreScopes, IsInstanceOf, IsNearestBy, IsNoHeader, IsOwn, IsScopeBy}

@@ -1,5 +1,5 @@
 use Rattle.std.proofs.Common.{subst, sym}
-use Rattle.loop_nest.specs.Table.{IsWithin}
+use Rattle.step_table.specs.Table.{IsWithin}
 use Rattle.loop_nest.proofs.Cycling.{forward_within}
 use Rattle.loop_nest.proofs.irreducible.first_irregular.Goals as goal
 

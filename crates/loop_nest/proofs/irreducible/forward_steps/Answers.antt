@@ -1,6 +1,6 @@
 use Rattle.std.proofs.Common.{◌≡◌, ◌+◌, true, false, get_or, subst, sym, take, arith}
 use Rattle.loop_nest.specs.Cycles.{AreForward}
-use Rattle.loop_nest.specs.Table.{IsStep}
+use Rattle.step_table.specs.Table.{IsStep}
 use Rattle.loop_nest.proofs.Cycling.{forward_end, forward_more, forward_none, forward_same}
 use Rattle.loop_nest.proofs.irreducible.forward_steps.Goals as goal
 

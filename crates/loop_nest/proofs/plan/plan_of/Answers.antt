@@ -1,5 +1,5 @@
 use Rattle.std.proofs.Common.{subst, sym}
-use Rattle.loop_nest.specs.Table.{IsWithin}
+use Rattle.step_table.specs.Table.{IsWithin}
 use Rattle.loop_nest.proofs.Planning.{entry_there, laid_by, plan_by, rises_by, within_laid}
 use Rattle.loop_nest.proofs.plan.plan_of.Goals as goal
 

@@ -4,7 +4,7 @@ use Rattle.unit_graph.specs.declared.node.Unit.{Unit as Node}
 use Rattle.loop_nest.specs.Bodies.{AreBelow, AreInner}
 use Rattle.loop_nest.specs.Bounds.{AreBounds}
 use Rattle.loop_nest.specs.Listing.{IsListed}
-use Rattle.loop_nest.specs.Table.{IsWithin}
+use Rattle.step_table.specs.Table.{IsWithin}
 use Rattle.loop_nest.proofs.Bounding.{address_of}
 use Rattle.loop_nest.proofs.Holding.{below_all}
 use Rattle.loop_nest.proofs.plan.regular_loops.Goals as goal

@@ -1,6 +1,6 @@
 use Rattle.std.proofs.Common.{◌∷◌, ◌++◌, ◌*◌, [], List, ℕ, ap, ◌∙◌, length, refl, subst, arith}
 use Rattle.loop_nest.specs.Ranks.{IsWalk}
-use Rattle.loop_nest.proofs.Meeting.{empty_by}
+use Rattle.step_table.proofs.Meeting.{empty_by}
 use Rattle.loop_nest.proofs.Ranking.{last_within, walk_end, walk_start}
 use Rattle.loop_nest.proofs.ranks.number_all.Goals as goal
 

@@ -1,7 +1,7 @@
 use Rattle.std.proofs.Common.{◌+◌, ◌&&◌, List, ℕ, subst, sym, arith}
 use Rattle.loop_nest.specs.Arcs.{AreBacksTo}
 use Rattle.loop_nest.proofs.Removing.{backs_more}
-use Rattle.loop_nest.proofs.Reversing.{sources_within}
+use Rattle.step_table.proofs.Reversing.{sources_within}
 use Rattle.loop_nest.proofs.removal.backs_of.Goals as goal
 
 pub loop-header-preserved : goal.loop-header-preserved

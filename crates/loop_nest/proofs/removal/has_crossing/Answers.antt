@@ -1,6 +1,6 @@
 use Rattle.std.proofs.Common.{ℕ, ◌<◌, arith, get_or}
-use Rattle.loop_nest.specs.Ranks.{number_of}
-use Rattle.loop_nest.specs.Search.{IsSeen}
+use Rattle.step_table.specs.Numbers.{number_of}
+use Rattle.step_table.specs.Search.{IsSeen}
 use Rattle.loop_nest.proofs.Removing.{all_end, all_more, unseen_from}
 use Rattle.loop_nest.proofs.removal.has_crossing.Goals as goal
 use Rattle.loop_nest.proofs.removal.has_crossing.Goals.{else-seen-position-via-then-seen-position+else-ranks-position, else-seen-position-via-else-seen-position}

@@ -1,7 +1,7 @@
 use Rattle.std.proofs.Common.{ℕ, ◌<◌, take}
 use Rattle.std.specs.Prelude.{Contains}
-use Rattle.loop_nest.specs.Ranks.{number_of}
-use Rattle.loop_nest.specs.Search.{IsSeen}
+use Rattle.step_table.specs.Numbers.{number_of}
+use Rattle.step_table.specs.Search.{IsSeen}
 use Rattle.loop_nest.proofs.removal.has_crossing.Given as goal
 
 abbrev pub invariant-loop-position : goal.invariant-loop-position

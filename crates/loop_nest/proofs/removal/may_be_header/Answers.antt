@@ -1,5 +1,5 @@
 use Rattle.std.proofs.Common.{ℕ, ◌<◌, arith}
-use Rattle.loop_nest.specs.Ranks.{number_of}
+use Rattle.step_table.specs.Numbers.{number_of}
 use Rattle.loop_nest.proofs.Removing.{all_end, all_more}
 use Rattle.loop_nest.proofs.removal.may_be_header.Goals as goal
 

@@ -1,6 +1,6 @@
 use Rattle.std.proofs.Common.{ℕ, ◌<◌, take}
 use Rattle.std.specs.Prelude.{Contains}
-use Rattle.loop_nest.specs.Ranks.{number_of}
+use Rattle.step_table.specs.Numbers.{number_of}
 use Rattle.loop_nest.proofs.removal.may_be_header.Given as goal
 
 abbrev pub invariant-loop-position : goal.invariant-loop-position

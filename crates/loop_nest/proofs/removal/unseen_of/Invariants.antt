@@ -1,6 +1,6 @@
 use Rattle.std.proofs.Common.{ℕ, ◌↔◌, take}
 use Rattle.std.specs.Prelude.{Contains}
-use Rattle.loop_nest.specs.Search.{IsSeen}
+use Rattle.step_table.specs.Search.{IsSeen}
 use Rattle.loop_nest.proofs.removal.unseen_of.Given as goal
 
 abbrev pub invariant-loop-position : goal.invariant-loop-position

@@ -1,8 +1,9 @@
 use Rattle.std.proofs.Common.{◌+◌, ◌∷◌, ◌++◌, [], ℕ, List, subst, sym, take}
 use Rattle.unit_graph.specs.declared.node.Unit.{Unit as Node}
-use Rattle.loop_nest.specs.Table.{AreStepsTo, IsTableOf}
-use Rattle.loop_nest.proofs.Positions.{zip_push}
-use Rattle.loop_nest.proofs.Seen.{one_more}
+use Rattle.step_table.specs.Table.{AreStepsTo}
+use Rattle.loop_nest.specs.Table.{IsTableOf}
+use Rattle.step_table.proofs.Positions.{zip_push}
+use Rattle.step_table.proofs.Seen.{one_more}
 use Rattle.loop_nest.proofs.table.table_of.Goals as goal
 
 pub loop-unit-preserved : goal.loop-unit-preserved

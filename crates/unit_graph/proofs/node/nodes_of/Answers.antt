@@ -1,25 +1,24 @@
-use Rattle.std.proofs.Common.{◌+◌, ◌∷◌, ◌++◌, [], List, subst, sym, take}
+use Rattle.std.proofs.Common.{◌+◌, ◌∷◌, ◌++◌, [], ℕ, List, get_or, subst, sym, take, arith}
 use Rattle.std.specs.List.{AllZip}
-use Rattle.net_model.specs.declared.unit.Content.{Content}
-use Rattle.unit_graph.specs.declared.reached.Reached.{Reached}
-use Rattle.unit_graph.specs.Nodes.{IsDescribed, IsNodeOf}
-use Rattle.unit_graph.proofs.Drawn.{AllZip-one_more}
-use Rattle.unit_graph.proofs.Foremost.{one_more}
+use Rattle.std.proofs.lemmas.List.{take_all, take_more}
+use Rattle.unit_graph.specs.declared.node.Unit.{Unit as Node}
+use Rattle.unit_graph.specs.Graphs.{IsNodeAt}
+use Rattle.unit_graph.proofs.Noting.{AllZip-push}
 use Rattle.unit_graph.proofs.node.nodes_of.Goals as goal
 
-pub loop-one-preserved : goal.loop-one-preserved
-loop-one-preserved c =
-    let one = c.one-item.result in
-    let node = c.in_ok-node_of-in-Unit.field-0 in
-    let described = c.in_ok-node_of-in-Unit.ensures in
-    let before = take c.loop-one.one-index c.args.reached.now in
-    let nodes : AllZip IsNodeOf (before ++ one ∷ []) (c.loop-one.nodes ++ node ∷ []) =
-    AllZip-one_more before c.loop-one.nodes one node c.loop-one.invariant
-    (record {
-      address = described.address;
-      described = subst (λ (content : Content). IsDescribed content node) (sym c.in-Unit.is) described.described;
-    }) in
-    subst (AllZip IsNodeOf (take (c.loop-one.one-index + 1) c.args.reached.now)) (sym c.in_ok-push-in-Unit.ensures.ok)
-    (subst (λ (reached : List Reached). AllZip IsNodeOf reached (c.loop-one.nodes ++ node ∷ []))
-    (sym (one_more c.args.reached.now c.loop-one.one-index one c.loop-one-test.true c.one-item.is))
-    nodes)
+pub loop-address-preserved : goal.loop-address-preserved
+loop-address-preserved c = λ image entry are returns.
+    let at = c.loop-address.address-index in
+    let one = get_or c.args.addresses.now at 0 in
+    let node = c.in_ok-node_at.field-0 in
+    subst (AllZip (IsNodeAt image) (take (at + 1) c.args.addresses.now)) (sym c.in_ok-push.ensures.ok)
+    (subst (λ (some : List ℕ). AllZip (IsNodeAt image) some (c.loop-address.nodes ++ node ∷ []))
+    (sym (take_more c.args.addresses.now at 0 c.loop-address-test.true))
+    (AllZip-push (IsNodeAt image) (take at c.args.addresses.now) c.loop-address.nodes one node
+    (c.loop-address.invariant image entry are returns) (c.in_ok-node_at.ensures image entry are returns)))
+
+pub returns : goal.returns
+returns c = λ image entry are returns.
+    subst (λ (some : List ℕ). AllZip (IsNodeAt image) some c.loop-address.nodes)
+    (take_all c.loop-address.address-index c.args.addresses.now (omega (arith, c.loop-address-test.false)))
+    (c.loop-address.invariant image entry are returns)

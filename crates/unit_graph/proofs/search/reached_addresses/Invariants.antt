@@ -1,9 +1,9 @@
 use Rattle.std.proofs.Common.{◌+◌, ◌*◌, ◌-◌, ◌^◌, length}
-use Rattle.unit_graph.specs.Search.{IsSearch}
+use Rattle.unit_graph.specs.Search.{IsSearch, LeadsTo}
 use Rattle.unit_graph.proofs.search.reached_addresses.Given as goal
 
 abbrev pub invariant-loop-address : goal.invariant-loop-address
-invariant-loop-address l = IsSearch l.image l.entry l.seen.keys l.waiting.items
+invariant-loop-address l = IsSearch (LeadsTo l.image) l.entry l.seen.keys l.waiting.items
 
 -- Each turn takes a waiting address; each that comes in its place was not seen before.
 abbrev pub decreases-loop-address : goal.decreases-loop-address

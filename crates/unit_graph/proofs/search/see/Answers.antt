@@ -9,7 +9,7 @@ use Rattle.unit_graph.proofs.search.see.Goals as goal
 pub returns-in_ok-push : goal.returns-in_ok-push
 returns-in_ok-push c =
     let e = c.in_ok-insert.ensures in
-    subst (λ (later : List ℕ). Sees (c.args.address ∷ []) c.args.seen.now.keys c.args.waiting.now.items c.insert.new.self.keys later)
+    subst (λ (later : List ℕ). Sees (λ x. c.args.address ≡ x) c.args.seen.now.keys c.args.waiting.now.items c.insert.new.self.keys later)
     (sym c.in_ok-push.ensures.items)
     (Sees-new c.args.seen.now c.insert.new.self c.args.address c.args.waiting.now.items (omega arith)
     e.updates e.ordered

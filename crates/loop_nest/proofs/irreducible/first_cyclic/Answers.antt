@@ -1,6 +1,0 @@
-use Rattle.std.proofs.Common.{arith}
-use Rattle.loop_nest.proofs.irreducible.first_cyclic.Goals as goal
-
-pub returns : goal.returns
-returns c position inside =
-    c.loop-position.invariant position (omega (arith, inside, c.loop-position-test.false, c.loop-position.auto))

@@ -1,9 +1,0 @@
-use Rattle.std.proofs.Common.{length}
-use Rattle.loop_nest.proofs.Ringing.{IsMarking}
-use Rattle.loop_nest.proofs.rings.mark_all.Given as goal
-
-abbrev pub invariant-loop-position : goal.invariant-loop-position
-invariant-loop-position l = IsMarking l.table l.reverse l.order.items l.seen l.marks
-
-abbrev pub decreases-loop-position : goal.decreases-loop-position
-decreases-loop-position l = length l.order.items

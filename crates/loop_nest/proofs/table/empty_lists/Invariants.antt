@@ -1,9 +1,0 @@
-use Rattle.std.proofs.Common.{◌≡◌, ℕ, length}
-use Rattle.loop_nest.specs.Table.{IsStep}
-use Rattle.loop_nest.proofs.table.empty_lists.Given as goal
-
-abbrev pub invariant-loop : goal.invariant-loop
-invariant-loop l = record {
-  count : length l.lists.items ≡ l.counter;
-  empty : (from to : ℕ) → IsStep l.lists.items from to → ⊥;
-}

@@ -1,7 +1,0 @@
-use Rattle.loop_nest.proofs.Positions.{position_found}
-use Rattle.loop_nest.proofs.table.position_of.Goals as goal
-
-pub returns : goal.returns
-returns c =
-    position_found c.args.addresses.now c.args.address c.binary_search.result c.requires
-    c.binary_search.ensures.position c.ok.result c.ok.ensures.value

@@ -1,0 +1,24 @@
+-- Reaching and returning, from one unit to the next.
+use Rattle.std.proofs.Common.{◌≡◌, ℕ, ◌+◌}
+use Rattle.std.specs.Prelude.{Contains}
+use Rattle.elf_mips.specs.declared.image.Image.{Image}
+use Rattle.net_model.specs.declared.unit.CodeUnit.{CodeUnit}
+use Rattle.net_model.specs.declared.unit.Content.TheVariants.{Unit as Stands}
+use Rattle.net_model.specs.Flow.{called, ways_on}
+use Rattle.net_model.specs.Functions.{CanReturn, GoesOn, IsReached, back, first, next, onward, returned}
+use Rattle.net_model.specs.Targets.{unit_at}
+
+-- What is reached from a reached address is reached.
+pub reached-through : (image : Image) (function address : ℕ) → IsReached image function address → (later : ℕ) →
+    IsReached image address later → IsReached image function later
+reached-through image function address there _ (first _) = there
+reached-through image function address there _ (next _ before later reached on) =
+    next function before later (reached-through image function address there before reached) on
+
+-- A unit can return where one of its onward units can.
+pub CanReturn-before : (image : Image) (address later : ℕ) → GoesOn image address later → CanReturn image later →
+    CanReturn image address
+CanReturn-before image address later on (returned _ last unit reached stands leaves) =
+    returned address last unit
+    (reached-through image address later (next address address later (first address) on) last reached)
+    stands leaves

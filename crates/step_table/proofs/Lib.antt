@@ -1,0 +1,8 @@
+-- Lemmas on tables of steps.
+pub mod Leaving
+pub mod Meeting
+pub mod Places
+pub mod Positions
+pub mod Reversing
+pub mod Ringing
+pub mod Seen

@@ -1,0 +1,7 @@
+use Rattle.std.proofs.Common.{ℕ, take}
+use Rattle.std.specs.Prelude.{Contains}
+use Rattle.step_table.specs.Search.{IsSeen}
+use Rattle.step_table.proofs.rings.has_seen.Given as goal
+
+abbrev pub invariant-loop-position : goal.invariant-loop-position
+invariant-loop-position l = (x : ℕ) → Contains (take l.position-index l.positions) x → IsSeen l.seen x → ⊥

@@ -1,0 +1,6 @@
+-- Tables of steps between positions: searches, orders and cycles.
+pub mod Cycles
+pub mod Numbers
+pub mod Rings
+pub mod Search
+pub mod Table

@@ -1,0 +1,6 @@
+-- Numbers of positions.
+use Rattle.std.specs.Prelude.{ℕ, List, slice_index_or}
+
+-- The number of a position.
+abbrev pub number_of : List ℕ → ℕ → ℕ
+number_of numbers position = slice_index_or numbers position 0

@@ -1,0 +1,17 @@
+use Rattle.std.proofs.Common.{◌≡◌, ◌<◌, ◌∙◌, ℕ, List, length, sym, subst, rules, arith, true, false}
+use Rattle.unit_graph.specs.Flow.{SomeReturns}
+use Rattle.unit_graph.proofs.Behind.{behind_not, behind_one, some_called}
+use Rattle.unit_graph.proofs.flow.see_behind.Goals as goal
+
+pub overflow_add-row : goal.overflow_add-row
+overflow_add-row c =
+    let low = c.requires (some_called c.args.returning.now.keys c.args.row.now.calls
+    (subst (SomeReturns c.args.returning.now.keys) c.as_slice.ensures (search rules))) in
+    omega (arith, low)
+
+pub returns : goal.returns
+returns c =
+    behind_one c.args.returning.now.keys c.args.row.now c.args.seen.now.keys c.args.waiting.now.items
+    c.see.new.seen.keys c.see.new.waiting.items
+    (subst (SomeReturns c.args.returning.now.keys) c.as_slice.ensures (search rules))
+    c.in_ok-see.ensures

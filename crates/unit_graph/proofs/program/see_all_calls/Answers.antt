@@ -1,0 +1,26 @@
+use Rattle.std.proofs.Common.{◌++◌, ◌∷◌, [], ℕ, List, get_or, subst, sym, take, arith}
+use Rattle.std.proofs.lemmas.List.{take_all, take_more}
+use Rattle.unit_graph.specs.Program.{CalledFrom}
+use Rattle.unit_graph.specs.Search.{Sees}
+use Rattle.unit_graph.proofs.Calling.{from_more, from_nobody}
+use Rattle.unit_graph.proofs.program.see_all_calls.Goals as goal
+
+pub loop-address-init : goal.loop-address-init
+loop-address-init c = from_nobody c.args.rows.now c.args.seen.now.keys c.args.waiting.now.items
+
+pub loop-address-preserved : goal.loop-address-preserved
+loop-address-preserved c =
+    let at = c.loop-address.address-index in
+    subst
+    (λ (some : List ℕ). Sees (CalledFrom c.args.rows.now some) c.args.seen.now.keys c.args.waiting.now.items c.see_calls.new.seen.keys c.see_calls.new.waiting.items)
+    (sym (take_more c.args.code.now at 0 c.loop-address-test.true))
+    (from_more c.args.rows.now (take at c.args.code.now) (get_or c.args.code.now at 0) c.args.seen.now.keys c.args.waiting.now.items
+    c.loop-address.seen.keys c.loop-address.waiting.items c.see_calls.new.seen.keys c.see_calls.new.waiting.items
+    c.loop-address.invariant c.in_ok-see_calls.ensures)
+
+pub returns : goal.returns
+returns c =
+    subst
+    (λ (some : List ℕ). Sees (CalledFrom c.args.rows.now some) c.args.seen.now.keys c.args.waiting.now.items c.loop-address.seen.keys c.loop-address.waiting.items)
+    (take_all c.loop-address.address-index c.args.code.now (omega (arith, c.loop-address-test.false)))
+    c.loop-address.invariant

@@ -1,0 +1,13 @@
+use Rattle.std.proofs.Common.{◌≡◌, ◌∙◌, ℕ, List, subst}
+use Rattle.unit_graph.specs.Program.{CalledFrom, CalledIn}
+use Rattle.unit_graph.proofs.Sets.{IfOk-just}
+use Rattle.unit_graph.proofs.Recurring.{IfOk-called}
+use Rattle.unit_graph.proofs.recursion.calls_in.Goals as goal
+
+pub returns : goal.returns
+returns c =
+    IfOk-called (λ calls. calls.items) c.args.rows.now c.args.returning.now.keys c.args.function c.in_ok-led.led.keys
+    c.deref.result.now c.items_of-2.result c.in_ok-led.ensures (c.deref.ensures.value ∙ c.in_ok-code.ensures)
+    (IfOk-just (λ calls. calls.items) (CalledFrom c.args.rows.now c.deref.result.now) c.new-seen.result.keys c.new-waiting.result.items
+    c.see_all_calls.new.seen.keys c.see_all_calls.new.waiting.items c.items_of-2.result
+    c.new-seen.ensures.empty c.new-seen.ensures.ordered c.in_ok-see_all_calls.ensures c.items_of-2.ensures)

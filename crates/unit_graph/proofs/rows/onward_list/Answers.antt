@@ -1,0 +1,14 @@
+use Rattle.std.proofs.Common.{◌∙◌, sym}
+use Rattle.net_model.specs.Flow.{called, own_ways, ways_on}
+use Rattle.net_model.specs.Onward.{stops}
+use Rattle.unit_graph.specs.Ways.{listed}
+use Rattle.unit_graph.proofs.Sets.{IfOk-set, IsSetOf-unless}
+use Rattle.unit_graph.proofs.rows.onward_list.Goals as goal
+
+pub returns : goal.returns
+returns c =
+    let unit = c.args.unit.now in
+    let own = own_ways c.args.image.now unit.instr c.args.address in
+    IfOk-set (ways_on c.args.image.now unit c.args.address) (listed c.own_ways.result) c.list_of.result c.list_of.ensures
+    (IsSetOf-unless (stops unit) own (listed c.own_ways.result) (sym c.stops.ensures ∙ c.if-stops.false)
+    (c.own_ways.ensures c.args.image.now (sym c.is_indirect.ensures ∙ c.if-is_indirect.false)))
