@@ -18,7 +18,7 @@ use Rattle.net_model.specs.Reached.{first as plain_first, next as plain_next}
 use Rattle.net_model.specs.Targets.{linked_content, unit_at}
 use Rattle.net_model.specs.Units.{content_at}
 
-in_none : (x : ℕ) → Contains [] x → ⊥
+pub in_none : (x : ℕ) → Contains [] x → ⊥
 in_none x (k, inside, e) = omega arith
 
 -- A unit that is followed keeps its ways.

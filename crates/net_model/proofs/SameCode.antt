@@ -76,7 +76,7 @@ called-same : (a b : Image) (unit : CodeUnit) (address : ℕ) → IsSameCode a b
 called-same a b unit address same =
     ap (λ (calls : List ℕ). if stops unit then [] else calls) (callees-same a b unit.instr address same)
 
-stands-same : (a b : Image) (address : ℕ) (content : Content) → IsSameCode a b → unit_at a address ≡ content → unit_at b address ≡ content
+pub stands-same : (a b : Image) (address : ℕ) (content : Content) → IsSameCode a b → unit_at a address ≡ content → unit_at b address ≡ content
 stands-same a b address content same e = sym (unit-same a b address same) ∙ e
 
 mutual

@@ -1,5 +1,5 @@
 -- The net of a function: a place for each unit that it reaches, an arc for each way on, an instance of each loop.
-use Rattle.std.specs.Prelude.{◌≡◌, ℕ, ◌<◌, ◌⊎◌, [], ◌∷◌, drop, All, AllPairs, Contains, Some, true}
+use Rattle.std.specs.Prelude.{◌≡◌, ℕ, ◌<◌, ◌⊎◌, [], ◌∷◌, drop, All, AllPairs, Some, true}
 use Rattle.elf_mips.specs.declared.image.Image.{Image}
 use Rattle.flow_net.specs.Numbers.{item_at}
 use Rattle.flow_net.specs.declared.net.LoopInst.{LoopInst}
@@ -8,10 +8,10 @@ use Rattle.flow_net.specs.declared.net.NetArc.{NetArc}
 use Rattle.flow_net.specs.declared.net.Place.{Place}
 use Rattle.net_model.specs.declared.unit.CodeUnit.{CodeUnit}
 use Rattle.net_model.specs.declared.unit.Content.TheVariants.{Unit as Stands}
-use Rattle.net_model.specs.Units.{content_at}
-use Rattle.net_model.specs.Onward.{onward, returns}
-use Rattle.net_model.specs.Reached.{IsReached}
+use Rattle.net_model.specs.Functions.{GoesOn, IsReached}
 use Rattle.net_model.specs.Loops.{IsHeader, IsInBody, IsInnermost, IsLoopBound}
+use Rattle.net_model.specs.Onward.{returns}
+use Rattle.net_model.specs.Targets.{unit_at}
 
 -- The place of a number stands for the unit at an address.
 pub record IsPlaceAt (net : Net) (number address : ℕ) : Type 0 where
@@ -20,9 +20,9 @@ pub record IsPlaceAt (net : Net) (number address : ℕ) : Type 0 where
   pub same : place.address ≡ address
 
 -- A unit leads to the places of its onward units, and a return unit to 0.
-abbrev pub LeadsTo : Net → CodeUnit → (address to : ℕ) → Type 0
-LeadsTo net unit address to =
-    ((later : ℕ) × Contains (onward unit address) later × IsPlaceAt net to later)
+abbrev pub LeadsTo : Image → Net → CodeUnit → (address to : ℕ) → Type 0
+LeadsTo image net unit address to =
+    ((later : ℕ) × GoesOn image address later × IsPlaceAt net to later)
     ⊎ ((to ≡ 0) × (returns unit ≡ true))
 
 -- The unit of a place leads to another place, or to 0.
@@ -30,8 +30,8 @@ pub record LeadsOn (image : Image) (net : Net) (from to : ℕ) : Type 0 where
   pub place : Place
   pub there : item_at from net.places ≡ Some place
   pub unit : CodeUnit
-  pub stands : content_at image place.address ≡ Stands unit
-  pub leads : LeadsTo net unit place.address to
+  pub stands : unit_at image place.address ≡ Stands unit
+  pub leads : LeadsTo image net unit place.address to
 
 -- The order of arcs: by their sources, then by their targets, with 0 as the last target.
 abbrev pub IsTargetBefore : ℕ → ℕ → Type 0
@@ -105,5 +105,5 @@ pub record Returns (image : Image) (entry : ℕ) : Type 0 where
   pub address : ℕ
   pub unit : CodeUnit
   pub reached : IsReached image entry address
-  pub stands : content_at image address ≡ Stands unit
+  pub stands : unit_at image address ≡ Stands unit
   pub returning : returns unit ≡ true
