@@ -4,8 +4,7 @@ use Rattle.std.proofs.lemmas.List.Elements.{All-contains}
 use Rattle.elf_mips.specs.declared.image.Image.{Image}
 use Rattle.loop_nest.specs.declared.nest.Loop.{Loop}
 use Rattle.loop_nest.specs.Nests.{IsLoop, IsNest}
-use Rattle.net_model.specs.Reached.{IsReached}
-use Rattle.net_model.specs.Ways.{GoesOn}
+use Rattle.net_model.specs.Functions.{GoesOn, IsReached}
 use Rattle.net_model.specs.Loops.{IsBackArc, IsHeader, IsInBody, IsNamedBy, IsUnbounded, source}
 use Rattle.loop_nest.proofs.Dominance.{body-behind, same_or_other}
 use Rattle.loop_nest.proofs.ForwardWays.{AreToldApart}

@@ -18,10 +18,7 @@ use Rattle.flow_net.specs.declared.net.NetArc.{NetArc}
 use Rattle.flow_net.specs.declared.net.Place.{Place}
 use Rattle.net_model.specs.declared.unit.CodeUnit.{CodeUnit}
 use Rattle.net_model.specs.declared.unit.Content.TheVariants.{Unit as Stands}
-use Rattle.net_model.specs.Units.{content_at}
-use Rattle.net_model.specs.Onward.{onward, returns}
-use Rattle.net_model.specs.Reached.{IsReached}
-use Rattle.net_model.specs.Ways.{GoesOn}
+use Rattle.net_model.specs.Functions.{GoesOn, IsReached}
 use Rattle.net_model.specs.Loops.{HasRanks, IsBackArc, IsInBody, IsLoopBound, head, source}
 use Rattle.net_model.specs.Net.{IsInstance, IsLoopAt, IsNet, IsOuterOf, IsPlaceAt, IsScopeOf, LeadsOn, LeadsTo, Returns}
 use Rattle.loop_nest.proofs.Dominance.{body-header, entered-at-header, entry-header, same_or_other}
@@ -40,7 +37,7 @@ place-number net n a at = item-within net.places n at.place at.there
 one-context : (net : Net) (context : Context) → net.contexts ≡ context ∷ [] → length net.contexts ≡ 1
 one-context net context same = ap length same
 
-leads-end : (image : Image) (net : Net) (from to : ℕ) (leads : LeadsOn image net from to) → LeadsTo net leads.unit leads.place.address to →
+leads-end : (image : Image) (net : Net) (from to : ℕ) (leads : LeadsOn image net from to) → LeadsTo image net leads.unit leads.place.address to →
     to ≤ length net.places
 leads-end image net from to leads (inl (later, on, at)) = place-number net to later at
 leads-end image net from to leads (inr (zero_to, back)) = omega (arith, zero_to)
@@ -201,9 +198,9 @@ entering-arc image entry net is ranked number scope arc inst there into outside 
       absurd (outside (body-holds image entry net is ranked scope arc.from instance.header leads.place.address own from_at
       (entered-at-header image entry instance.header leads.place.address later from_reached goes body differ)))
 
-  by_leads : LeadsTo net leads.unit leads.place.address arc.to → arc.to ≡ inst.header
+  by_leads : LeadsTo image net leads.unit leads.place.address arc.to → arc.to ≡ inst.header
   by_leads (inl (later, on, at)) =
-      by_later later (record { unit = leads.unit; stands = leads.stands; onward = on }) at
+      by_later later on at
       (holds-body image entry net is scope arc.to instance.header later own at into) (same_or_other later instance.header)
   by_leads (inr (zero_to, back)) =
       absurd (none-some into.place (ap (λ (n : ℕ). item_at n net.places) (sym zero_to) ∙ into.there))
@@ -241,12 +238,11 @@ rises-along image entry net is ranked number arc placed arrives forward (Leads m
   from_reached : IsReached image entry leads.place.address
   from_reached = item-all (λ (p : Place). IsReached image entry p.address) net.places arc.from leads.place is.reached leads.there
 
-  by_leads : LeadsTo net leads.unit leads.place.address arc.to →
+  by_leads : LeadsTo image net leads.unit leads.place.address arc.to →
       place-rank image entry net ranked.ranks arc.from < place-rank image entry net ranked.ranks arc.to
   by_leads (inl (later, on, at)) =
-      let goes : GoesOn image leads.place.address later = record { unit = leads.unit; stands = leads.stands; onward = on } in
       let rise = ranked.ranks.rises leads.place.address later from_reached (record {
-        goes = goes;
+        goes = on;
         forward = λ back. forward (back-arc image entry net is ranked arc leads.place.address later from_at at back);
       }) in
       let one = rank-place image entry net ranked.ranks arc.from leads.place.address from_at in

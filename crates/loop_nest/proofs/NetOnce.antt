@@ -8,7 +8,7 @@ use Rattle.flow_net.specs.Numbers.{item_at}
 use Rattle.flow_net.specs.declared.net.LoopInst.{LoopInst}
 use Rattle.flow_net.specs.declared.net.Net.{Net}
 use Rattle.flow_net.specs.declared.net.Place.{Place}
-use Rattle.net_model.specs.Reached.{IsReached}
+use Rattle.net_model.specs.Functions.{IsReached}
 use Rattle.net_model.specs.Loops.{IsLoopBound}
 use Rattle.net_model.specs.Net.{IsInstance, IsLoopAt, IsNet, IsOuterOf, IsPlaceAt, IsScopeOf}
 use Rattle.loop_nest.proofs.Innermost.{innermost-one}

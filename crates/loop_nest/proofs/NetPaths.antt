@@ -8,9 +8,9 @@ use Rattle.flow_net.specs.declared.net.Net.{Net}
 use Rattle.flow_net.specs.declared.net.NetArc.{NetArc}
 use Rattle.net_model.specs.declared.unit.CodeUnit.{CodeUnit}
 use Rattle.net_model.specs.declared.unit.Content.TheVariants.{Unit as Stands}
-use Rattle.net_model.specs.Units.{content_at}
-use Rattle.net_model.specs.Onward.{onward, returns}
-use Rattle.net_model.specs.Reached.{IsReached, first, next}
+use Rattle.net_model.specs.Functions.{GoesOn, IsReached, back, first, next, onward}
+use Rattle.net_model.specs.Onward.{returns}
+use Rattle.net_model.specs.Targets.{unit_at}
 use Rattle.net_model.specs.Net.{IsNet, IsPlaceAt, LeadsOn, LeadsTo}
 use Rattle.loop_nest.proofs.NetItems.{item-one, item-positive, no-place}
 
@@ -20,15 +20,15 @@ pub record ArcOf (net : Net) (from to : ℕ) : Type 0 where
   pub there : item_at number net.arcs ≡ Some (record { from = from; to = to })
 
 pub leads-on : (image : Image) (entry : ℕ) (net : Net) (from to address : ℕ) (unit : CodeUnit) → IsNet image entry net →
-    IsPlaceAt net from address → content_at image address ≡ Stands unit →
-    (((later : ℕ) × Contains (onward unit address) later × IsPlaceAt net to later) ⊎ ((to ≡ 0) × (returns unit ≡ true))) → ArcOf net from to
+    IsPlaceAt net from address → unit_at image address ≡ Stands unit →
+    (((later : ℕ) × GoesOn image address later × IsPlaceAt net to later) ⊎ ((to ≡ 0) × (returns unit ≡ true))) → ArcOf net from to
 leads-on image entry net from to address unit is at stands leads =
     let arc = is.arcs from to (record {
       place = at.place;
       there = at.there;
       unit = unit;
-      stands = ap (content_at image) at.same ∙ stands;
-      leads = subst (λ (a : ℕ). LeadsTo net unit a to) (sym at.same) leads;
+      stands = ap (unit_at image) at.same ∙ stands;
+      leads = subst (λ (a : ℕ). LeadsTo image net unit a to) (sym at.same) leads;
     }) in
     record { number = arc.0; there = arc.2 }
 
@@ -52,14 +52,20 @@ pub record ComesTo (net : Net) (address : ℕ) : Type 0 where
   pub numbers : List ℕ
   pub path : IsRunPath net.arcs numbers number
 
+-- A unit stands where something goes on.
+goes-from : (image : Image) (address later : ℕ) → GoesOn image address later → (unit : CodeUnit) × (unit_at image address ≡ Stands unit)
+goes-from image _ _ (onward address later unit stands way) = (unit, stands)
+goes-from image _ _ (back address callee unit stands calls can) = (unit, stands)
+
 pub comes-to : (image : Image) (entry : ℕ) (net : Net) → IsNet image entry net → (address : ℕ) → IsReached image entry address → ComesTo net address
-comes-to image entry net is _ first =
+comes-to image _ net is _ (first entry) =
     let arc = is.first in
     record { number = arc.0.to; at = arc.3; numbers = 1 ∷ []; path = (refl, (arc.0, arc.1, arc.2, refl)) }
-comes-to image entry net is _ (next address later unit before stands here) =
+comes-to image _ net is _ (next entry address later before on) =
     let from = comes-to image entry net is address before in
-    let to = is.whole later (next address later unit before stands here) in
-    let arc = leads-on image entry net from.number to.0 address unit is from.at stands (inl (later, here, to.1)) in
+    let to = is.whole later (next entry address later before on) in
+    let unit = goes-from image address later on in
+    let arc = leads-on image entry net from.number to.0 address unit.0 is from.at unit.1 (inl (later, on, to.1)) in
     record {
       number = to.0;
       at = to.1;

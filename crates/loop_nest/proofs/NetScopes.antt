@@ -7,7 +7,7 @@ use Rattle.flow_net.specs.Scopes.{Holds, IsWithin, here, out}
 use Rattle.flow_net.specs.declared.net.LoopInst.{LoopInst}
 use Rattle.flow_net.specs.declared.net.Net.{Net}
 use Rattle.flow_net.specs.declared.net.Place.{Place}
-use Rattle.net_model.specs.Reached.{IsReached}
+use Rattle.net_model.specs.Functions.{IsReached}
 use Rattle.net_model.specs.Loops.{HasRanks, IsForwardWay, IsHeader, IsInBody, IsInnermost, head}
 use Rattle.net_model.specs.Net.{IsInstance, IsLoopAt, IsNet, IsNextOutward, IsOuterOf, IsPlaceAt, IsScopeOf}
 use Rattle.loop_nest.proofs.Dominance.{body-header, body-reached, goes-reached, header-reached, same_or_other}
