@@ -188,6 +188,48 @@ fn finds_loops_in_loops(rt: HostRuntime) -> Result<(), Fail> {
     Ok(())
 }
 
+/// A call of the function at 00400018, and in each of the two a branch to itself.
+const CALLED: [u32; 10] = [
+    0x0C10_0006,
+    0,
+    0x1480_FFFF,
+    0,
+    RETURN,
+    0,
+    0x14A0_FFFF,
+    0,
+    RETURN,
+    0,
+];
+
+#[test]
+fn finds_loops_of_each_function(rt: HostRuntime) -> Result<(), Fail> {
+    let alloc = rt.alloc();
+    let records: [Bound; 2] = [(0x0040_0018, 4), (0x0040_0008, 3)];
+    let Ok(nests) = loops_of(alloc, &CALLED, &records)? else {
+        return Err("a fault".into());
+    };
+    let [own, called] = nests.nests.as_slice() else {
+        return Err("not two functions".into());
+    };
+    let [first] = own.as_slice() else {
+        return Err("not one loop".into());
+    };
+    let [second] = called.as_slice() else {
+        return Err("not one loop".into());
+    };
+    assert_eq!(rt; (first.header, first.bound), (0x0040_0008, 3));
+    assert_eq!(rt; (second.header, second.bound), (0x0040_0018, 4));
+    // Without a record each: the least header of both functions, and that of the function that has none.
+    let kind = CodeKind::NoBound;
+    let cases: [(&[Bound], u32); 2] = [(&[], 0x0040_0008), (&[(0x0040_0008, 3)], 0x0040_0018)];
+    for (records, address) in cases {
+        let fault = loops_of(alloc, &CALLED, records)?.err();
+        assert_eq!(rt; fault, Some(CodeFault::Bad { kind, address }));
+    }
+    Ok(())
+}
+
 #[test]
 fn answers_the_first_fault_of_loops(rt: HostRuntime) -> Result<(), Fail> {
     let alloc = rt.alloc();

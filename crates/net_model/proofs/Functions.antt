@@ -1,12 +1,7 @@
 -- Reaching and returning, from one unit to the next.
-use Rattle.std.proofs.Common.{◌≡◌, ℕ, ◌+◌}
-use Rattle.std.specs.Prelude.{Contains}
+use Rattle.std.proofs.Common.{ℕ}
 use Rattle.elf_mips.specs.declared.image.Image.{Image}
-use Rattle.net_model.specs.declared.unit.CodeUnit.{CodeUnit}
-use Rattle.net_model.specs.declared.unit.Content.TheVariants.{Unit as Stands}
-use Rattle.net_model.specs.Flow.{called, ways_on}
-use Rattle.net_model.specs.Functions.{CanReturn, GoesOn, IsReached, back, first, next, onward, returned}
-use Rattle.net_model.specs.Targets.{unit_at}
+use Rattle.net_model.specs.Functions.{CanReturn, GoesOn, IsReached, first, next, returned}
 
 -- What is reached from a reached address is reached.
 pub reached-through : (image : Image) (function address : ℕ) → IsReached image function address → (later : ℕ) →

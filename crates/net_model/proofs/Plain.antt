@@ -1,5 +1,5 @@
 -- What is reached where calls and indirect jumps aren't followed is reached as code of the program.
-use Rattle.std.proofs.Common.{◌≡◌, ℕ, ◌+◌, ◌==◌, Bool, true, false, not, List, [], ◌∷◌, ◌++◌, Option, refl, ap, arith}
+use Rattle.std.proofs.Common.{◌≡◌, ℕ, ◌+◌, Bool, true, false, List, [], ◌∷◌, ◌++◌, Option, refl, ap, arith}
 use Rattle.std.specs.Prelude.{Contains, ◌&&◌, ◌||◌, if◌then◌else◌}
 use Rattle.elf_mips.specs.declared.image.Image.{Image}
 use Rattle.mips_decode.specs.Transfer.{branch_links, branch_target, jump_target}
@@ -9,13 +9,13 @@ use Rattle.net_model.specs.declared.unit.CodeKind.{CodeKind}
 use Rattle.net_model.specs.declared.unit.CodeUnit.{CodeUnit}
 use Rattle.net_model.specs.declared.unit.Content.TheVariants.{Unit as Stands, Fault}
 use Rattle.net_model.specs.Faults.{Offends, faulty}
-use Rattle.net_model.specs.Flow.{own_ways, passed_way}
+use Rattle.net_model.specs.Flow.{own_ways}
 use Rattle.net_model.specs.Functions.{GoesOn, IsReached, first, main, next, onward}
 use Rattle.net_model.specs.Onward.{branch_ways, may_be_passed, may_be_taken, stops}
 use Rattle.net_model.specs.Onward.{onward as plain_onward}
 use Rattle.net_model.specs.Reached.{IsReached as IsReachedPlainly}
 use Rattle.net_model.specs.Reached.{first as plain_first, next as plain_next}
-use Rattle.net_model.specs.Targets.{linked_content, unit_at}
+use Rattle.net_model.specs.Targets.{linked_content}
 use Rattle.net_model.specs.Units.{content_at}
 
 pub in_none : (x : ℕ) → Contains [] x → ⊥

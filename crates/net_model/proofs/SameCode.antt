@@ -1,9 +1,8 @@
 -- Images with the same segments and records have the same functions, calls and faults.
-use Rattle.std.proofs.Common.{◌≡◌, ℕ, ◌+◌, ◌==◌, Bool, cond, List, [], ◌∷◌, map, filter, refl, ap, sym, subst, ◌∙◌}
+use Rattle.std.proofs.Common.{◌≡◌, ℕ, ◌==◌, List, [], ◌∷◌, map, filter, refl, ap, sym, subst, ◌∙◌}
 use Rattle.std.specs.Prelude.{Contains, ◌&&◌, if◌then◌else◌}
 use Rattle.elf_mips.specs.declared.image.Image.{Image}
 use Rattle.elf_mips.specs.declared.mark.Mark.{Mark}
-use Rattle.elf_mips.specs.declared.segment.Segment.{Segment}
 use Rattle.mips_decode.specs.Records.{needs_target}
 use Rattle.mips_decode.specs.declared.instr.Instr.{Instr}
 use Rattle.mips_decode.specs.declared.instr.Instr.TheVariants.{Three, Shift, HiLo, MulDiv, Imm, Lui, Load, Store, Branch, Jump, JumpReg, JumpLink, Stop}
@@ -12,11 +11,11 @@ use Rattle.net_model.specs.declared.unit.CodeKind.TheVariants.{LinkRegister, Unk
 use Rattle.net_model.specs.declared.unit.CodeUnit.{CodeUnit}
 use Rattle.net_model.specs.declared.unit.Content.{Content}
 use Rattle.net_model.specs.declared.unit.Content.TheVariants.{Unit as Stands, Fault}
-use Rattle.net_model.specs.Faults.{IsCode, Offends, faulty, recursive}
+use Rattle.net_model.specs.Faults.{Offends, faulty, recursive}
 use Rattle.net_model.specs.Flow.{called, callees, own_ways, ways_on}
-use Rattle.net_model.specs.Functions.{Calls, CallsAt, CanReturn, GoesOn, IsCallWay, IsFunction, IsReached, IsRecursive, back, first, further, main, next, onward, returned}
+use Rattle.net_model.specs.Functions.{Calls, CanReturn, GoesOn, IsCallWay, IsFunction, IsReached, back, first, further, main, next, onward, returned}
 use Rattle.net_model.specs.Onward.{stops}
-use Rattle.net_model.specs.Targets.{is_none, linked, linked_content, links_elsewhere, names_target, targets_at, unit_at}
+use Rattle.net_model.specs.Targets.{is_none, linked_content, links_elsewhere, names_target, targets_at, unit_at}
 use Rattle.net_model.specs.Units.{content_at}
 
 -- What of two images makes their code the same.

@@ -1,5 +1,5 @@
 -- What the records say of the transfers, and which units the code of a program has by them.
-use Rattle.std.specs.Prelude.{◌≡◌, ℕ, ◌==◌, ◌&&◌, Bool, true, false, not, List, [], ◌∷◌, map, filter, if◌then◌else◌}
+use Rattle.std.specs.Prelude.{ℕ, ◌==◌, ◌&&◌, Bool, true, false, not, List, [], ◌∷◌, map, filter, if◌then◌else◌}
 use Rattle.elf_mips.specs.declared.image.Image.{Image}
 use Rattle.elf_mips.specs.declared.mark.Mark.{Mark}
 use Rattle.mips_decode.specs.Records.{needs_target}

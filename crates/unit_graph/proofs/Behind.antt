@@ -1,17 +1,15 @@
 -- What is seen behind a unit, once it is known which functions can return.
-use Rattle.std.proofs.Common.{◌≡◌, ℕ, ◌+◌, ◌<◌, ◌^◌, Bool, true, false, List, [], ◌∷◌, ◌++◌, get_or, length, refl, sym, subst, ap, ◌∙◌, arith, inl, inr, ◌⊎◌}
+use Rattle.std.proofs.Common.{◌≡◌, ℕ, ◌+◌, ◌<◌, List, [], ◌∷◌, ◌++◌, get_or, length, refl, sym, subst, ap, ◌∙◌, arith, inl, inr, ◌⊎◌}
 use Rattle.std.specs.Prelude.{Contains}
 use Rattle.std.proofs.lemmas.Bool.{cases_order}
 use Rattle.std.proofs.lemmas.List.{get_or_default}
-use Rattle.std.proofs.lemmas.List.Elements.{All-contains, Contains-push_cases}
-use Rattle.elf_mips.specs.declared.image.Image.{Image}
+use Rattle.std.proofs.lemmas.List.Elements.{Contains-push_cases}
 use Rattle.unit_graph.specs.Flow.{ComesBack, Follows, Leads, LeadsFrom, SomeReturns}
-use Rattle.unit_graph.specs.Rows.{HasRow, IsRow, Rise}
+use Rattle.unit_graph.specs.Rows.{HasRow, Rise}
 use Rattle.unit_graph.specs.Search.{Sees}
 use Rattle.unit_graph.specs.declared.flow.Reach.{Reach}
 use Rattle.unit_graph.specs.declared.flow.Reach.TheVariants.{Function, Program}
 use Rattle.unit_graph.specs.declared.rows.Row.{Row}
-use Rattle.unit_graph.proofs.FarSight.{low_some}
 use Rattle.unit_graph.proofs.RuleLists.{in_none}
 use Rattle.unit_graph.proofs.Seen.{Sees-none, Sees-same, Sees-then}
 

@@ -1,17 +1,13 @@
 -- Where no unit has a fault, a unit stands at each address to which a function leads.
-use Rattle.std.proofs.Common.{◌≡◌, ℕ, List, All, None, refl, sym, subst, ◌∙◌}
+use Rattle.std.proofs.Common.{◌≡◌, ℕ, List, All, None, refl, ◌∙◌}
 use Rattle.std.specs.Prelude.{Contains}
 use Rattle.std.proofs.lemmas.List.Elements.{All-contains_itself, All-weaker}
 use Rattle.elf_mips.specs.declared.image.Image.{Image}
-use Rattle.net_model.specs.declared.unit.CodeUnit.{CodeUnit}
 use Rattle.net_model.specs.declared.unit.Content.{Content}
 use Rattle.net_model.specs.declared.unit.Content.TheVariants.{Unit as Stands, Fault}
 use Rattle.net_model.specs.Faults.{IsCode}
-use Rattle.net_model.specs.Functions.{IsFunction}
 use Rattle.net_model.specs.Targets.{unit_at}
 use Rattle.unit_graph.specs.Firsts.{IsFirstFaulty}
-use Rattle.unit_graph.specs.Graphs.{AreJust}
-use Rattle.unit_graph.specs.Inference.{AreReturning}
 use Rattle.unit_graph.specs.Program.{AreUnits, IsProgram}
 use Rattle.unit_graph.specs.Rows.{AreRows, HasRow, HasUnit}
 use Rattle.unit_graph.specs.declared.program.Program.{Program}

@@ -1,18 +1,17 @@
 -- The nodes of the units to which a function leads are the graph of the function.
-use Rattle.std.proofs.Common.{◌≡◌, ℕ, ◌<◌, Bool, List, [], ◌∷◌, All, map, length, get_or, zero, suc, refl, ap, sym, subst, ◌∙◌, arith}
+use Rattle.std.proofs.Common.{◌≡◌, ℕ, ◌<◌, Bool, List, [], ◌∷◌, map, length, get_or, zero, suc, refl, ap, sym, subst, ◌∙◌, arith}
 use Rattle.std.specs.List.{AllZip, list_any}
 use Rattle.std.specs.Prelude.{AllPairs, Contains}
 use Rattle.std.proofs.lemmas.List.{get_or_default}
 use Rattle.elf_mips.specs.declared.image.Image.{Image}
 use Rattle.net_model.specs.Functions.{IsReached}
 use Rattle.unit_graph.specs.Flow.{Leads}
-use Rattle.unit_graph.specs.Graphs.{IsGraph, IsNode, IsNodeAt}
+use Rattle.unit_graph.specs.Graphs.{IsGraph, IsNodeAt}
 use Rattle.unit_graph.specs.Inference.{AreReturning}
 use Rattle.unit_graph.specs.Program.{AreUnits}
 use Rattle.unit_graph.specs.Rows.{AreRows}
 use Rattle.unit_graph.specs.Search.{AreLed, begins}
 use Rattle.unit_graph.specs.declared.flow.Reach.TheVariants.{Function}
-use Rattle.unit_graph.specs.declared.graph.Graph.{Graph}
 use Rattle.unit_graph.specs.declared.node.Unit.{Unit as Node}
 use Rattle.unit_graph.specs.declared.rows.Row.{Row}
 use Rattle.unit_graph.proofs.Flowing.{led_reached, reached_led}

@@ -1,5 +1,5 @@
 -- The parts of a program are what its code reaches.
-use Rattle.std.proofs.Common.{◌≡◌, ℕ, List, All, refl, sym, subst, ◌∙◌}
+use Rattle.std.proofs.Common.{◌≡◌, ℕ, List, All, sym, subst, ◌∙◌}
 use Rattle.std.specs.Prelude.{Contains}
 use Rattle.std.proofs.lemmas.List.Elements.{All-contains_itself, All-weaker}
 use Rattle.elf_mips.specs.declared.image.Image.{Image}

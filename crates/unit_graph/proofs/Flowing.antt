@@ -1,17 +1,16 @@
 -- What rows lead to is what functions and programs reach.
-use Rattle.std.proofs.Common.{◌≡◌, ℕ, ◌+◌, ◌<◌, List, All, refl, sym, subst, ap, ◌∙◌, inl, inr, ◌⊎◌}
+use Rattle.std.proofs.Common.{◌≡◌, ℕ, ◌+◌, List, refl, sym, subst, ap, inl, inr}
 use Rattle.std.specs.Prelude.{Contains}
 use Rattle.std.proofs.lemmas.List.Elements.{All-contains}
 use Rattle.elf_mips.specs.declared.image.Image.{Image}
-use Rattle.net_model.specs.declared.unit.CodeUnit.{CodeUnit}
 use Rattle.net_model.specs.declared.unit.Content.{Content}
 use Rattle.net_model.specs.declared.unit.Content.TheVariants.{Unit as Stands, Fault}
 use Rattle.net_model.specs.Faults.{IsCode}
-use Rattle.net_model.specs.Functions.{Calls, CallsAt, CanReturn, GoesOn, IsFunction, IsReached, back, first, further, main, next, onward}
+use Rattle.net_model.specs.Functions.{Calls, CallsAt, GoesOn, IsFunction, IsReached, back, first, further, main, next, onward}
 use Rattle.net_model.specs.Targets.{unit_at}
-use Rattle.unit_graph.specs.Flow.{ComesBack, Follows, Leads, LeadsFrom, SomeReturns}
+use Rattle.unit_graph.specs.Flow.{Follows, Leads, LeadsFrom}
 use Rattle.unit_graph.specs.Inference.{AreReturning}
-use Rattle.unit_graph.specs.Program.{CalledFrom, CalledIn, IsAnyFunction, RowCalls}
+use Rattle.unit_graph.specs.Program.{CalledIn, IsAnyFunction, RowCalls}
 use Rattle.unit_graph.specs.Rows.{AreRows, HasRow, IsRow, calls_of_content, ways_of_content}
 use Rattle.unit_graph.specs.Search.{IsLed, begins, goes}
 use Rattle.unit_graph.specs.declared.flow.Reach.{Reach}

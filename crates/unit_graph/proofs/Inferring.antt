@@ -1,21 +1,18 @@
 -- Which units can return: the rules say the truth, and leave none out.
-use Rattle.std.proofs.Common.{◌≡◌, ℕ, ◌+◌, ◌<◌, ◌≤◌, ◌^◌, true, false, List, [], ◌∷◌, ◌++◌, All, length, Some, None, refl, sym, subst, ap, ◌∙◌, arith, inl, inr, ◌⊎◌}
+use Rattle.std.proofs.Common.{◌≡◌, ℕ, ◌+◌, true, List, [], ◌∷◌, ◌++◌, Some, None, sym, subst, inl, inr, ◌⊎◌}
 use Rattle.std.specs.Prelude.{Contains}
 use Rattle.std.specs.List.Sorted.{IsNonDecreasingBy, IsPermutation, IsStrictlySortedBy}
 use Rattle.std.specs.Ordering.{nat_cmp}
 use Rattle.std.proofs.lemmas.List.Elements.{All-contains, All-contains_itself, All-weaker, Contains-append_left, Contains-push, Contains-push_cases}
 use Rattle.std.proofs.lemmas.List.Sorted.{All-permutation, Contains-permutation}
 use Rattle.elf_mips.specs.declared.image.Image.{Image}
-use Rattle.net_model.specs.declared.unit.CodeUnit.{CodeUnit}
 use Rattle.net_model.specs.declared.unit.Content.{Content}
 use Rattle.net_model.specs.declared.unit.Content.TheVariants.{Unit as Stands, Fault}
-use Rattle.net_model.specs.Flow.{called, ways_on}
-use Rattle.net_model.specs.Functions.{CanReturn, GoesOn, IsReached, back, first, next, onward, returned}
-use Rattle.net_model.specs.Onward.{returns}
+use Rattle.net_model.specs.Functions.{CanReturn, GoesOn, back, first, onward, returned}
 use Rattle.net_model.specs.Targets.{unit_at}
 use Rattle.net_model.proofs.Functions.{CanReturn-before}
-use Rattle.unit_graph.specs.Inference.{Adds, AreReturning, AreRules, CanAllReturn, CanReturnOr, Infers, IsAnyRule, IsCallRule, IsEnd, IsInferring, IsMetBy, IsOnwardRule, IsRuleOf, IsSound, returns_at}
-use Rattle.unit_graph.specs.Rows.{AreRows, HasRow, IsRow, calls_of_content, ways_of_content}
+use Rattle.unit_graph.specs.Inference.{Adds, AreRules, Infers, IsAnyRule, IsCallRule, IsEnd, IsInferring, IsMetBy, IsOnwardRule, IsRuleOf, IsSound, returns_at}
+use Rattle.unit_graph.specs.Rows.{AreRows, IsRow, calls_of_content, ways_of_content}
 use Rattle.unit_graph.specs.Search.{Sees}
 use Rattle.unit_graph.specs.declared.inference.Rule.{Rule}
 use Rattle.unit_graph.specs.declared.rows.Row.{Row}

@@ -1,5 +1,5 @@
 -- The node of a row is that of the unit at its address.
-use Rattle.std.proofs.Common.{◌≡◌, ℕ, ◌+◌, ◌<◌, List, [], ◌∷◌, ◌++◌, sym, subst, ap, ◌∙◌, inl, inr, ◌⊎◌}
+use Rattle.std.proofs.Common.{◌≡◌, ℕ, List, [], ◌∷◌, ◌++◌, sym, subst, ap, ◌∙◌}
 use Rattle.std.specs.Prelude.{Contains, IfOk, Result, Ok, Err}
 use Rattle.std.specs.List.{AllZip}
 use Rattle.std.proofs.lemmas.List.Elements.{All-contains}
@@ -10,7 +10,7 @@ use Rattle.net_model.specs.Functions.{CallsAt, GoesOn}
 use Rattle.net_model.specs.Onward.{load_of}
 use Rattle.net_model.specs.Targets.{unit_at}
 use Rattle.unit_graph.specs.Flow.{Follows}
-use Rattle.unit_graph.specs.Graphs.{AreJust, Describes, IsNodeAt}
+use Rattle.unit_graph.specs.Graphs.{AreJust, IsNodeAt}
 use Rattle.unit_graph.specs.Inference.{AreReturning}
 use Rattle.unit_graph.specs.Nodes.{IsNodeOf}
 use Rattle.unit_graph.specs.Rows.{AreRows, HasRow, HasUnit, IsRow}

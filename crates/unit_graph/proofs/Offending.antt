@@ -1,5 +1,5 @@
 -- The first fault of the code, by what stands at its addresses and by the functions that call themselves.
-use Rattle.std.proofs.Common.{◌≡◌, ℕ, ◌+◌, ◌<◌, ◌≤◌, Bool, true, false, List, [], ◌∷◌, map, All, Option, Some, None, get_or, length, refl, sym, subst, ap, ◌∙◌, arith, inl, inr, ◌⊎◌}
+use Rattle.std.proofs.Common.{◌≡◌, ℕ, ◌+◌, ◌<◌, Bool, true, false, List, map, All, Option, Some, None, refl, sym, subst, ap, ◌∙◌, arith, inl, inr}
 use Rattle.std.specs.Prelude.{Contains, if◌then◌else◌, ◌&&◌}
 use Rattle.std.proofs.lemmas.List.{get_or-map, length-map}
 use Rattle.std.proofs.lemmas.List.Elements.{All-contains, All-contains_itself, All-map, All-weaker}
@@ -10,16 +10,15 @@ use Rattle.mips_decode.specs.Step.{Fetched, Found, Missing, fetched}
 use Rattle.mips_decode.specs.declared.instr.Instr.{Instr}
 use Rattle.net_model.specs.declared.unit.CodeKind.{CodeKind}
 use Rattle.net_model.specs.declared.unit.CodeKind.TheVariants.{LinkRegister, Recursion, TransferInSlot, UnknownTarget, WritableCode}
-use Rattle.net_model.specs.declared.unit.CodeUnit.{CodeUnit}
 use Rattle.net_model.specs.declared.unit.Content.{Content}
 use Rattle.net_model.specs.declared.unit.Content.TheVariants.{Unit as Stands, Fault}
 use Rattle.net_model.specs.Faults.{HasNoFault, IsCode, IsFirstFault, Offends, faulty, rank, recursive}
 use Rattle.net_model.specs.Functions.{IsRecursive}
-use Rattle.net_model.specs.Targets.{is_none, linked, linked_content, links_elsewhere, targets_at, unit_at}
+use Rattle.net_model.specs.Targets.{is_none, linked_content, links_elsewhere, targets_at, unit_at}
 use Rattle.net_model.specs.Units.{Holds, Lacks, Word, content_at, content_of, is_transfer, known, with_slot, word_at}
 use Rattle.unit_graph.specs.declared.first.Offence.{Offence}
 use Rattle.unit_graph.specs.declared.reached.Reached.{Reached}
-use Rattle.unit_graph.specs.Firsts.{Follows, IsAmong, IsFaulty, IsFirstFaulty, IsNoEarlier}
+use Rattle.unit_graph.specs.Firsts.{Follows, IsAmong, IsFaulty, IsFirstFaulty}
 use Rattle.unit_graph.specs.Graphs.{AreJust}
 use Rattle.unit_graph.specs.Program.{described}
 use Rattle.unit_graph.specs.Recursion.{IsFirstRecursive}

@@ -1,15 +1,13 @@
 -- Calls between functions, by their positions.
-use Rattle.std.proofs.Common.{◌≡◌, ℕ, ◌<◌, ◌≤◌, List, [], ◌∷◌, ◌++◌, All, length, zero, suc, Option, Some, None, Result, Ok, Err, refl, sym, subst, ap, ◌∙◌, arith, inl, inr, ◌⊎◌, get_or}
+use Rattle.std.proofs.Common.{◌≡◌, ℕ, ◌<◌, ◌≤◌, List, [], ◌∷◌, ◌++◌, length, zero, suc, Some, None, Result, Ok, Err, refl, sym, subst, ap, ◌∙◌, arith, inl, inr, ◌⊎◌, get_or}
 use Rattle.std.specs.Prelude.{AllPairs, Contains, IfOk, slice_get}
-use Rattle.std.specs.List.{AllZip}
-use Rattle.std.proofs.lemmas.List.Elements.{All-contains, All-contains_itself, All-weaker}
 use Rattle.std.proofs.lemmas.Bool.{cases_eq, cases_lt}
 use Rattle.std.proofs.lemmas.List.{get_or_default}
 use Rattle.std.proofs.lemmas.Option.{none-some, same_Some, slice_get-get_or, slice_get_within}
 use Rattle.elf_mips.specs.declared.image.Image.{Image}
 use Rattle.net_model.specs.Functions.{Calls, IsCallWay, IsFunction, IsRecursive, further}
 use Rattle.step_table.specs.Cycles.{IsCyclic, IsFirstCyclic}
-use Rattle.step_table.specs.Table.{AreStepsTo, IsMet, IsNamed, IsStep, IsWithin}
+use Rattle.step_table.specs.Table.{AreStepsTo, IsMet, IsStep, IsWithin}
 use Rattle.step_table.specs.Table.IsMet.{begins, goes}
 use Rattle.step_table.proofs.Positions.{contains_at, place_of, same_place}
 use Rattle.unit_graph.specs.Flow.{Leads}
@@ -17,7 +15,7 @@ use Rattle.unit_graph.specs.Graphs.{AreJust}
 use Rattle.unit_graph.specs.Inference.{AreReturning}
 use Rattle.unit_graph.specs.Program.{CalledFrom, CalledIn}
 use Rattle.unit_graph.specs.Recursion.{AreCalls, IsCallTable, IsFirstRecursive}
-use Rattle.unit_graph.specs.Rows.{AreRows, HasRow}
+use Rattle.unit_graph.specs.Rows.{AreRows}
 use Rattle.unit_graph.specs.Search.{AreLed}
 use Rattle.unit_graph.specs.declared.flow.Reach.TheVariants.{Function}
 use Rattle.unit_graph.specs.declared.rows.Row.{Row}

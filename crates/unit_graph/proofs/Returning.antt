@@ -1,22 +1,21 @@
 -- Each unit that can return is seen when none waits.
-use Rattle.std.proofs.Common.{◌≡◌, ℕ, ◌+◌, ◌<◌, true, List, [], ◌∷◌, Some, None, refl, sym, subst, ap, ◌∙◌, arith, inl, inr, ◌⊎◌}
+use Rattle.std.proofs.Common.{◌≡◌, ℕ, ◌+◌, true, List, [], Some, None, sym, subst, ap, ◌∙◌, inl, inr}
 use Rattle.std.specs.Prelude.{Contains}
 use Rattle.std.proofs.lemmas.List.Elements.{All-contains}
 use Rattle.elf_mips.specs.declared.image.Image.{Image}
 use Rattle.net_model.specs.declared.unit.CodeUnit.{CodeUnit}
 use Rattle.net_model.specs.declared.unit.Content.{Content}
-use Rattle.net_model.specs.declared.unit.Content.TheVariants.{Unit as Stands, Fault}
+use Rattle.net_model.specs.declared.unit.Content.TheVariants.{Unit as Stands}
 use Rattle.net_model.specs.Flow.{called, ways_on}
 use Rattle.net_model.specs.Functions.{CanReturn, GoesOn, IsReached, back, first, next, onward, returned}
 use Rattle.net_model.specs.Onward.{returns}
 use Rattle.net_model.specs.Targets.{unit_at}
-use Rattle.unit_graph.specs.Inference.{AreReturning, AreRules, IsAnyRule, IsCallRule, IsEnd, IsInferring, IsOnwardRule, returns_at}
+use Rattle.unit_graph.specs.Inference.{AreReturning, AreRules, IsEnd, IsInferring, returns_at}
 use Rattle.unit_graph.specs.Rows.{AreRows, HasRow, IsRow, calls_of_content, ways_of_content}
 use Rattle.unit_graph.specs.declared.inference.Rule.{Rule}
 use Rattle.unit_graph.specs.declared.rows.Row.{Row}
 use Rattle.unit_graph.proofs.FarSight.{not_empty}
 use Rattle.unit_graph.proofs.RuleLists.{in_none}
-use Rattle.unit_graph.proofs.Searching.{empty_by}
 
 -- The row of an address at which a unit stands.
 pub at_row : (image : Image) (rows : List Row) (entry address : ℕ) → AreRows image entry rows → (has : HasRow rows address) →

@@ -1,8 +1,7 @@
 -- The place of an address among rising rows, and what a search for it says.
-use Rattle.std.proofs.Common.{◌≡◌, ℕ, ◌<◌, ◌≤◌, true, false, List, length, get_or, refl, sym, subst, ap, ◌∙◌, arith, inl, inr, ◌⊎◌, nat_lt}
-use Rattle.std.specs.Prelude.{Contains}
+use Rattle.std.proofs.Common.{◌≡◌, ℕ, ◌<◌, ◌≤◌, true, false, List, length, get_or, sym, subst, ap, ◌∙◌, arith, inl, inr, ◌⊎◌, nat_lt}
 use Rattle.std.specs.List.Sorted.{IsNonDecreasingBy, IsPartitionPoint}
-use Rattle.std.proofs.lemmas.Bool.{cases_lt, cases_order, ltb-false, ltb-true}
+use Rattle.std.proofs.lemmas.Bool.{cases_lt, ltb-false, ltb-true}
 use Rattle.std.proofs.lemmas.List.{get_or_default}
 use Rattle.unit_graph.specs.Rows.{HasRow, Rise}
 use Rattle.unit_graph.specs.declared.rows.Row.{Row}

@@ -1,10 +1,10 @@
 -- The rows of all addresses to which an entry may lead are closed under what their units may lead to.
-use Rattle.std.proofs.Common.{◌≡◌, ℕ, ◌<◌, List, [], ◌∷◌, map, length, get_or, All, refl, ap, sym, subst, ◌∙◌, arith, Result, Ok, Err}
+use Rattle.std.proofs.Common.{◌≡◌, ℕ, ◌<◌, List, map, length, get_or, All, sym, subst, ◌∙◌, arith, Result, Ok, Err}
 use Rattle.std.specs.Prelude.{AllPairs, Contains, IfOk}
 use Rattle.std.proofs.lemmas.List.{get_or-map, length-map}
 use Rattle.std.proofs.lemmas.List.Elements.{All-contains}
 use Rattle.elf_mips.specs.declared.image.Image.{Image}
-use Rattle.unit_graph.specs.Rows.{AreRows, HasRow, IsRow, MayLead, MayLeadAt, Rise}
+use Rattle.unit_graph.specs.Rows.{AreRows, HasRow, IsRow, MayLeadAt, Rise}
 use Rattle.unit_graph.specs.Search.{AreLed, begins, goes}
 use Rattle.unit_graph.specs.declared.rows.Row.{Row}
 use Rattle.unit_graph.proofs.FarSight.{far_by}

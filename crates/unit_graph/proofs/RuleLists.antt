@@ -2,7 +2,7 @@
 use Rattle.std.proofs.Common.{◌≡◌, ℕ, ◌+◌, List, [], ◌∷◌, ◌++◌, Some, None, zero, suc, refl, sym, subst, arith, inl, inr, ◌⊎◌}
 use Rattle.std.specs.Prelude.{Contains}
 use Rattle.std.proofs.lemmas.List.Elements.{Contains-append_left, Contains-push, Contains-push_cases}
-use Rattle.unit_graph.specs.Inference.{Adds, IsAnyRule, IsCallRule, IsEnd, IsOnwardRule, IsRuleOf}
+use Rattle.unit_graph.specs.Inference.{Adds, IsAnyRule, IsCallRule, IsOnwardRule, IsRuleOf}
 use Rattle.unit_graph.specs.declared.inference.Rule.{Rule}
 use Rattle.unit_graph.specs.declared.rows.Row.{Row}
 

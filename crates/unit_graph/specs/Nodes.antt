@@ -1,8 +1,6 @@
 -- The nodes of rows.
 use Rattle.std.specs.Prelude.{◌≡◌, ℕ, List, Contains, is_some}
 use Rattle.net_model.specs.declared.unit.CodeUnit.{CodeUnit}
-use Rattle.net_model.specs.declared.unit.Content.{Content}
-use Rattle.net_model.specs.declared.unit.Content.TheVariants.{Unit as Stands, Fault}
 use Rattle.net_model.specs.Onward.{is_link_passed, load_of, returns}
 use Rattle.unit_graph.specs.declared.node.Unit.{Unit as Node}
 use Rattle.unit_graph.specs.declared.reached.Reached.{Reached}

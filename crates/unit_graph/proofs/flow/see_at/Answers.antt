@@ -1,7 +1,6 @@
-use Rattle.std.proofs.Common.{◌∙◌, sym, subst, rules}
 use Rattle.std.proofs.lemmas.List.Elements.{All-contains}
 use Rattle.unit_graph.specs.Rows.{IsRow}
-use Rattle.unit_graph.proofs.Behind.{leads_nowhere, leads_row}
+use Rattle.unit_graph.proofs.Behind.{leads_row}
 use Rattle.unit_graph.proofs.FarSight.{low_some}
 use Rattle.unit_graph.proofs.flow.see_at.Goals as goal
 

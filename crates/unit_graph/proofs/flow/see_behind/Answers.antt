@@ -1,6 +1,6 @@
-use Rattle.std.proofs.Common.{◌≡◌, ◌<◌, ◌∙◌, ℕ, List, length, sym, subst, rules, arith, true, false}
+use Rattle.std.proofs.Common.{subst, rules, arith}
 use Rattle.unit_graph.specs.Flow.{SomeReturns}
-use Rattle.unit_graph.proofs.Behind.{behind_not, behind_one, some_called}
+use Rattle.unit_graph.proofs.Behind.{behind_one, some_called}
 use Rattle.unit_graph.proofs.flow.see_behind.Goals as goal
 
 pub overflow_add-row : goal.overflow_add-row

@@ -1,4 +1,4 @@
-use Rattle.std.proofs.Common.{◌∙◌, sym, subst, rules}
+use Rattle.std.proofs.Common.{rules}
 use Rattle.unit_graph.proofs.Behind.{row_alone, row_program}
 use Rattle.unit_graph.proofs.flow.see_row.Goals as goal
 

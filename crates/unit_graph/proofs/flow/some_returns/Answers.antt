@@ -1,4 +1,4 @@
-use Rattle.std.proofs.Common.{◌≡◌, ◌++◌, ◌∷◌, [], ℕ, List, get_or, subst, sym, refl, take, arith, true, false, rules}
+use Rattle.std.proofs.Common.{ℕ, List, get_or, subst, sym, refl, take, arith, rules}
 use Rattle.std.proofs.lemmas.List.{take_all, take_more}
 use Rattle.unit_graph.specs.Flow.{SomeReturns}
 use Rattle.unit_graph.proofs.Behind.{some_here, some_more, some_none}

@@ -1,4 +1,4 @@
-use Rattle.std.proofs.Common.{◌≡◌, ◌∙◌, ℕ, None, Some, ap, subst, sym}
+use Rattle.std.proofs.Common.{subst}
 use Rattle.unit_graph.specs.Firsts.{IsFirstFaulty}
 use Rattle.unit_graph.specs.Recursion.{IsFirstRecursive}
 use Rattle.unit_graph.proofs.Clean.{AreUnits-clean}

@@ -1,4 +1,4 @@
-use Rattle.std.proofs.Common.{◌≡◌, ◌+◌, ◌++◌, ◌∷◌, [], ℕ, List, get_or, subst, sym, take, arith, rules}
+use Rattle.std.proofs.Common.{ℕ, List, get_or, subst, sym, take, arith, rules}
 use Rattle.std.proofs.lemmas.List.{take_all, take_more}
 use Rattle.unit_graph.specs.Program.{AreGraphsOf}
 use Rattle.unit_graph.proofs.Others.{of_nobody, of_push, of_skip}

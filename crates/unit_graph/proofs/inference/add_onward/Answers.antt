@@ -1,4 +1,4 @@
-use Rattle.std.proofs.Common.{◌++◌, ◌∷◌, [], ℕ, List, get_or, subst, sym, take, arith}
+use Rattle.std.proofs.Common.{[], ℕ, List, get_or, subst, sym, take, arith}
 use Rattle.std.proofs.lemmas.List.{take_all, take_more}
 use Rattle.unit_graph.specs.Inference.{Adds, IsOnwardRule}
 use Rattle.unit_graph.proofs.RuleLists.{Adds-none, no_onward, onward_more}

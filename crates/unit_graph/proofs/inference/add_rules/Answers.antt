@@ -1,4 +1,4 @@
-use Rattle.std.proofs.Common.{ℕ, List, ◌<◌, length, subst, sym}
+use Rattle.std.proofs.Common.{ℕ, List, ◌<◌, length, subst}
 use Rattle.unit_graph.specs.Inference.{Adds, IsCallRule, IsOnwardRule}
 use Rattle.unit_graph.proofs.RuleLists.{Adds-then}
 use Rattle.unit_graph.proofs.inference.add_rules.Goals as goal

@@ -1,5 +1,5 @@
-use Rattle.std.proofs.Common.{◌≡◌, ◌+◌, ◌<◌, [], ℕ, List, length, arith, ap, ◌∙◌, sym, subst}
-use Rattle.unit_graph.specs.Inference.{AreRules, IsInferring}
+use Rattle.std.proofs.Common.{List, arith, subst}
+use Rattle.unit_graph.specs.Inference.{IsInferring}
 use Rattle.unit_graph.specs.declared.inference.Rule.{Rule}
 use Rattle.unit_graph.proofs.Growing.{grows_shrinks}
 use Rattle.unit_graph.proofs.Inferring.{IsInferring-start, IsInferring-turn}

@@ -1,4 +1,4 @@
-use Rattle.std.proofs.Common.{◌++◌, ◌∷◌, [], ℕ, ◌<◌, List, get_or, length, subst, sym, take, arith, rules, All}
+use Rattle.std.proofs.Common.{[], List, subst, sym, take, arith, rules}
 use Rattle.std.proofs.lemmas.List.{take_all}
 use Rattle.std.proofs.lemmas.List.Sorted.{IsNonDecreasingBy-from_sort_by_key}
 use Rattle.unit_graph.specs.Inference.{Adds, IsAnyRule}

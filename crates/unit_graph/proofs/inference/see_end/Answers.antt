@@ -1,4 +1,4 @@
-use Rattle.std.proofs.Common.{◌∙◌, sym, rules}
+use Rattle.std.proofs.Common.{rules}
 use Rattle.unit_graph.proofs.Ends.{ends_one}
 use Rattle.unit_graph.proofs.inference.see_end.Goals as goal
 

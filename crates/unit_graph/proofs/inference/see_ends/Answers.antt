@@ -1,4 +1,4 @@
-use Rattle.std.proofs.Common.{◌++◌, ◌∷◌, [], List, get_or, subst, sym, take, arith}
+use Rattle.std.proofs.Common.{List, subst, sym, take, arith}
 use Rattle.std.proofs.lemmas.List.{take_all}
 use Rattle.unit_graph.specs.Inference.{IsEnd}
 use Rattle.unit_graph.specs.Search.{Sees}

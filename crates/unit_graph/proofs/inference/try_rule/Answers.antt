@@ -1,4 +1,4 @@
-use Rattle.std.proofs.Common.{◌∙◌, sym, rules}
+use Rattle.std.proofs.Common.{rules}
 use Rattle.unit_graph.proofs.Growing.{IsTried-met}
 use Rattle.unit_graph.proofs.inference.try_rule.Goals as goal
 

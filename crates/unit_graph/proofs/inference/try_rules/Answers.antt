@@ -1,4 +1,4 @@
-use Rattle.std.proofs.Common.{◌++◌, ◌∷◌, [], List, None, get_or, subst, sym, take}
+use Rattle.std.proofs.Common.{List, None, get_or, subst, sym, take}
 use Rattle.std.proofs.lemmas.List.{take_more}
 use Rattle.unit_graph.specs.Inference.{Infers}
 use Rattle.unit_graph.specs.declared.inference.Rule.{Rule}

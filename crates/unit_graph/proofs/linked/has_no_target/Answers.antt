@@ -1,6 +1,5 @@
-use Rattle.std.proofs.Common.{◌∙◌, ◌==◌, ap, length}
+use Rattle.std.proofs.Common.{◌∙◌}
 use Rattle.elf_mips.specs.declared.mark.Mark.{Mark}
-use Rattle.net_model.specs.Targets.{targets_at}
 use Rattle.unit_graph.proofs.Naming.{none_found}
 use Rattle.unit_graph.proofs.Ranging.{AreAt}
 use Rattle.unit_graph.proofs.linked.has_no_target.Goals as goal

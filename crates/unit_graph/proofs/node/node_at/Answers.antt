@@ -1,5 +1,4 @@
-use Rattle.std.proofs.Common.{◌≡◌, ◌∙◌, sym, subst}
-use Rattle.unit_graph.proofs.Noting.{IfOk-node, found_stands}
+use Rattle.unit_graph.proofs.Noting.{IfOk-node}
 use Rattle.unit_graph.proofs.node.node_at.Goals as goal
 
 pub returns : goal.returns

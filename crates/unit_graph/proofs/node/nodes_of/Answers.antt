@@ -1,7 +1,6 @@
 use Rattle.std.proofs.Common.{◌+◌, ◌∷◌, ◌++◌, [], ℕ, List, get_or, subst, sym, take, arith}
 use Rattle.std.specs.List.{AllZip}
 use Rattle.std.proofs.lemmas.List.{take_all, take_more}
-use Rattle.unit_graph.specs.declared.node.Unit.{Unit as Node}
 use Rattle.unit_graph.specs.Graphs.{IsNodeAt}
 use Rattle.unit_graph.proofs.Noting.{AllZip-push}
 use Rattle.unit_graph.proofs.node.nodes_of.Goals as goal

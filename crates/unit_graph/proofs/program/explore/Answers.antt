@@ -1,4 +1,4 @@
-use Rattle.std.proofs.Common.{◌≡◌, ◌∙◌, ℕ, List, subst, sym}
+use Rattle.std.proofs.Common.{subst, sym}
 use Rattle.unit_graph.specs.Rows.{AreRows, Rise}
 use Rattle.unit_graph.proofs.Exploring.{IsProgram-explored}
 use Rattle.unit_graph.proofs.program.explore.Goals as goal

@@ -1,8 +1,6 @@
-use Rattle.std.proofs.Common.{◌≡◌, ◌∙◌, ℕ, List, All, subst, sym, ap, map}
-use Rattle.unit_graph.specs.Firsts.{Follows, IsAmong}
+use Rattle.std.proofs.Common.{◌∙◌, List, All, subst, sym, ap, map}
 use Rattle.unit_graph.specs.Program.{described}
 use Rattle.unit_graph.specs.Rows.{HasRow, Rise, IsRow}
-use Rattle.unit_graph.specs.declared.reached.Reached.{Reached}
 use Rattle.unit_graph.specs.declared.rows.Row.{Row}
 use Rattle.unit_graph.proofs.Exploring.{code_rows}
 use Rattle.unit_graph.proofs.Offending.{IsFirstFaulty-found}

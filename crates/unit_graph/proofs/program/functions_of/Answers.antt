@@ -1,4 +1,4 @@
-use Rattle.std.proofs.Common.{◌≡◌, ◌∙◌, ℕ}
+use Rattle.std.proofs.Common.{◌≡◌}
 use Rattle.unit_graph.specs.Program.{CalledFrom}
 use Rattle.unit_graph.proofs.Seen.{Sees-then}
 use Rattle.unit_graph.proofs.Sets.{IfOk-just}

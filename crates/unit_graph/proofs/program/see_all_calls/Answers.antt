@@ -1,4 +1,4 @@
-use Rattle.std.proofs.Common.{◌++◌, ◌∷◌, [], ℕ, List, get_or, subst, sym, take, arith}
+use Rattle.std.proofs.Common.{ℕ, List, get_or, subst, sym, take, arith}
 use Rattle.std.proofs.lemmas.List.{take_all, take_more}
 use Rattle.unit_graph.specs.Program.{CalledFrom}
 use Rattle.unit_graph.specs.Search.{Sees}

@@ -1,5 +1,5 @@
-use Rattle.std.proofs.Common.{◌≡◌, ◌∙◌, ℕ, List, subst}
-use Rattle.unit_graph.specs.Program.{CalledFrom, CalledIn}
+use Rattle.std.proofs.Common.{◌∙◌}
+use Rattle.unit_graph.specs.Program.{CalledFrom}
 use Rattle.unit_graph.proofs.Sets.{IfOk-just}
 use Rattle.unit_graph.proofs.Recurring.{IfOk-called}
 use Rattle.unit_graph.proofs.recursion.calls_in.Goals as goal

@@ -1,11 +1,8 @@
-use Rattle.std.proofs.Common.{◌≡◌, ◌∙◌, ◌<◌, ℕ, List, All, None, Some, ap, get_or, length, subst, sym, arith, rules}
-use Rattle.std.specs.Prelude.{slice_get}
+use Rattle.std.proofs.Common.{ℕ, List, All, None, Some, get_or, subst, sym}
 use Rattle.std.proofs.lemmas.Option.{slice_get-get_or}
 use Rattle.step_table.specs.Cycles.{IsFirstCyclic}
 use Rattle.step_table.specs.Table.{IsWithin}
-use Rattle.unit_graph.specs.Recursion.{IsCallTable}
 use Rattle.unit_graph.specs.Rows.{IsRow, Rise}
-use Rattle.unit_graph.specs.declared.rows.Row.{Row}
 use Rattle.unit_graph.proofs.Recurring.{calls_within, first_none, first_some, first_within, tabled}
 use Rattle.unit_graph.proofs.recursion.first_recursive.Goals as goal
 

@@ -1,4 +1,4 @@
-use Rattle.std.proofs.Common.{ℕ, ◌++◌, ◌∷◌, [], List, get_or, subst, sym, take}
+use Rattle.std.proofs.Common.{ℕ, List, get_or, subst, sym, take}
 use Rattle.std.specs.Prelude.{Contains}
 use Rattle.std.proofs.lemmas.List.{take_more}
 use Rattle.unit_graph.specs.Search.{Sees}

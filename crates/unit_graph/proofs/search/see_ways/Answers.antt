@@ -1,4 +1,4 @@
-use Rattle.std.proofs.Common.{◌≡◌, [], ◌∷◌, subst, sym}
+use Rattle.std.proofs.Common.{[], ◌∷◌, subst, sym}
 use Rattle.std.specs.Prelude.{Contains}
 use Rattle.unit_graph.specs.declared.ways.Ways.{Ways}
 use Rattle.unit_graph.specs.Search.{Sees}

@@ -1,8 +1,8 @@
 -- The partition gives the place of the address.
-use Rattle.std.proofs.Common.{nat_lt, rules, arith}
+use Rattle.std.proofs.Common.{nat_lt, rules}
 use Rattle.std.proofs.lemmas.List.Sorted.{IsPartitionPoint-from_clause, IsPartitionedBy-ltb}
 use Rattle.unit_graph.specs.declared.rows.Row.{Row}
-use Rattle.unit_graph.proofs.RowPlaces.{IsPlaceOf, none_other, none_past, rows_ordered}
+use Rattle.unit_graph.proofs.RowPlaces.{none_other, none_past, rows_ordered}
 use Rattle.unit_graph.proofs.span.row_at.Goals as goal
 
 pub returns-in_default-clause-none : goal.returns-in_default-clause-none

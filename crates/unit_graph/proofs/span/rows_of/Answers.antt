@@ -1,4 +1,4 @@
-use Rattle.std.proofs.Common.{◌∙◌, subst, sym}
+use Rattle.std.proofs.Common.{◌∙◌}
 use Rattle.unit_graph.proofs.RowTable.{IfOk-rows}
 use Rattle.unit_graph.proofs.span.rows_of.Goals as goal
 

@@ -1,5 +1,4 @@
-use Rattle.std.proofs.Common.{◌≡◌, ◌+◌, [], List, ℕ, length, subst, sym, ◌∙◌, arith, rules}
-use Rattle.unit_graph.specs.Rows.{MayLead}
+use Rattle.std.proofs.Common.{rules}
 use Rattle.unit_graph.proofs.FarSight.{Sees-calls, Sees-no_calls}
 use Rattle.unit_graph.proofs.span.see_far.Goals as goal
 

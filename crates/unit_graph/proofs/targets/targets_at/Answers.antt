@@ -1,8 +1,8 @@
 -- The two searches give the places between which the records at the address stand.
-use Rattle.std.proofs.Common.{◌≡◌, ◌-◌, List, nat_le, nat_lt, rules, sym, subst, ◌∙◌, ap, take, arith}
+use Rattle.std.proofs.Common.{◌-◌, nat_le, nat_lt, rules, ◌∙◌, ap, take}
 use Rattle.std.proofs.lemmas.List.Sorted.{IsPartitionPoint-from_clause, IsPartitionedBy-leb, IsPartitionedBy-ltb}
 use Rattle.elf_mips.specs.declared.mark.Mark.{Mark}
-use Rattle.unit_graph.proofs.Ranging.{AreAt, IsSplit, from_to, part, part_at_address}
+use Rattle.unit_graph.proofs.Ranging.{AreAt, IsSplit, from_to, part_at_address}
 use Rattle.unit_graph.proofs.targets.targets_at.Goals as goal
 
 nothing : Mark

@@ -1,5 +1,5 @@
 -- The sorted records of targets.
-use Rattle.std.proofs.Common.{◌≡◌, ◌==◌, List, filter, rules, sym, subst, ap, ◌∙◌}
+use Rattle.std.proofs.Common.{◌==◌, filter, rules, sym, subst, ap, ◌∙◌}
 use Rattle.std.proofs.lemmas.List.Sorted.{IsNonDecreasingBy-from_sort_by_key}
 use Rattle.elf_mips.specs.declared.mark.Mark.{Mark}
 use Rattle.unit_graph.specs.Targets.{AreTargets}
