@@ -1,5 +1,5 @@
 -- Which faults an address can hold, and the first fault of the code and its loops.
-use Rattle.std.proofs.Common.{◌≡◌, ℕ, ◌+◌, ◌<◌, Bool, true, false, cond, List, Option, Some, None, refl, sym, ap, subst, ◌∙◌, arith}
+use Rattle.std.proofs.Common.{◌≡◌, ℕ, ◌+◌, ◌<◌, Bool, true, false, cond, List, Some, None, refl, subst, arith}
 use Rattle.elf_mips.specs.declared.image.Image.{Image}
 use Rattle.elf_mips.specs.Segments.{code_at, is_writable_word}
 use Rattle.loop_nest.specs.Nests.{IsNest, TellsKind, TellsFault as TellsLoops}
@@ -10,17 +10,15 @@ use Rattle.mips_decode.specs.declared.instr.Instr.{Instr}
 use Rattle.mips_decode.specs.Step.{Fetched, Found, Missing, fetched}
 use Rattle.net_model.specs.declared.unit.CodeKind.{CodeKind}
 use Rattle.net_model.specs.declared.unit.CodeKind.TheVariants as code
-use Rattle.net_model.specs.declared.unit.Content.{Content}
 use Rattle.net_model.specs.declared.unit.Content.TheVariants.{Unit as Stands, Fault}
 use Rattle.net_model.specs.Faults.{HasNoFault, IsFirstFault, Offends, rank as code_rank}
-use Rattle.net_model.specs.Units.{Word, Holds, Lacks, content_at, content_of, is_transfer, known, with_slot, word_at}
+use Rattle.net_model.specs.Units.{Word, Holds, Lacks, content_of, is_transfer, known, with_slot, word_at}
 use Rattle.wcet_engine.specs.Code.{IsCodeRefusal, TellsCode}
 use Rattle.wcet_engine.specs.Faults.{IsCodeFault, refused_by}
 use Rattle.unit_graph.specs.Graphs.{TellsFault as TellsWords}
 use Rattle.unit_graph.specs.declared.fault.CodeFault.{CodeFault}
 use Rattle.unit_graph.specs.declared.fault.CodeFault.TheVariants.{Bad, Memory}
 use Rattle.wcet_engine.specs.Refusals.{kind_of_code}
-
 
 -- An address never holds a fault of the loops.
 abbrev IsOfWord : CodeKind → Type 0
