@@ -1,0 +1,7 @@
+-- Longest runs of nested nets, level by level, and what shows that they are longest.
+pub mod Shape
+pub mod Nets
+pub mod Ways
+pub mod Solved
+pub mod Counted
+pub mod LeafWeights

@@ -1,0 +1,2 @@
+//! The greatest value of the program of a nested net, and the counts and the multipliers that show it.
+#![tactic(auto)]
