@@ -1,0 +1,3 @@
+-- Lemmas of this crate.
+pub mod Sums
+pub mod Arcs
