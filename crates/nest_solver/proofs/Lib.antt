@@ -4,3 +4,4 @@ pub mod Arcs
 pub mod Solving
 pub mod Forward
 pub mod Worths
+pub mod Lifting

@@ -123,19 +123,19 @@ lifted_cases a b v x = elim (cases_lt 0 a) as (λ _. (cond (nat_lt 0 a && nat_lt
 ]
 
 -- What a place is raised to.
-abbrev raise : (s : Shape) (round best turns worth : ℕ → ℕ) → ℕ → ℕ
+abbrev pub raise : (s : Shape) (round best turns worth : ℕ → ℕ) → ℕ → ℕ
 raise s round best turns worth p = (best p + worth (s.header (round p))) - (turns (round p) + 1)
 
-lifted-more : (s : Shape) (round best turns worth : ℕ → ℕ) (p : ℕ) → worth p ≤ lifted s round best turns worth p
+pub lifted-more : (s : Shape) (round best turns worth : ℕ → ℕ) (p : ℕ) → worth p ≤ lifted s round best turns worth p
 lifted-more s round best turns worth p =
     lifted_more (round p) (best p) (worth p) (raise s round best turns worth p)
 
-lifted-in : (s : Shape) (round best turns worth : ℕ → ℕ) (p : ℕ) → 0 < round p → 0 < best p →
+pub lifted-in : (s : Shape) (round best turns worth : ℕ → ℕ) (p : ℕ) → 0 < round p → 0 < best p →
     lifted s round best turns worth p ≡ max (worth p) (raise s round best turns worth p)
 lifted-in s round best turns worth p h k =
     lifted_in (round p) (best p) (worth p) (raise s round best turns worth p) h k
 
-lifted-cases : (s : Shape) (round best turns worth : ℕ → ℕ) (p : ℕ) →
+pub lifted-cases : (s : Shape) (round best turns worth : ℕ → ℕ) (p : ℕ) →
     (lifted s round best turns worth p ≡ worth p)
     ⊎ ((0 < round p) × (0 < best p)
         × (lifted s round best turns worth p ≡ raise s round best turns worth p))
