@@ -5,3 +5,5 @@ pub mod Solving
 pub mod Forward
 pub mod Worths
 pub mod Lifting
+pub mod Times
+pub mod Along
