@@ -7,3 +7,4 @@ pub mod Worths
 pub mod Lifting
 pub mod Times
 pub mod Along
+pub mod Counting
