@@ -133,7 +133,7 @@ comes-split s counts l nest u =
     ∙ sum-add s.arcs (λ i. bit (enters s l i) * counts i) (λ i. bit (returns s l i) * counts i)
 
 -- The way of a loop is a turn, or it has none.
-any-way : (s : Shape) (weight turns : ℕ → ℕ) (depth : ℕ) (ways : ℕ → List ℕ) → AreWays s weight turns depth ways →
+pub any-way : (s : Shape) (weight turns : ℕ → ℕ) (depth : ℕ) (ways : ℕ → List ℕ) → AreWays s weight turns depth ways →
     (l : ℕ) → IsUpTo s.loops l → (ways l ≡ []) ⊎ IsTurn s weight l (turns l) (ways l)
 any-way s weight turns depth ways are l u =
     elim (cases_lt depth (s.depth l)) as (λ _. (ways l ≡ []) ⊎ IsTurn s weight l (turns l) (ways l)) [
@@ -145,7 +145,7 @@ any-way s weight turns depth ways are l u =
     ]
 
 -- What holds of no way and of each turn holds of each loop's way.
-each-way : (s : Shape) (weight turns : ℕ → ℕ) (depth : ℕ) (ways : ℕ → List ℕ) → AreWays s weight turns depth ways →
+pub each-way : (s : Shape) (weight turns : ℕ → ℕ) (depth : ℕ) (ways : ℕ → List ℕ) → AreWays s weight turns depth ways →
     (P : List ℕ → Type 0) (l : ℕ) → IsUpTo s.loops l → P [] →
     (IsTurn s weight l (turns l) (ways l) → P (ways l)) → P (ways l)
 each-way s weight turns depth ways are P l u none some =
@@ -154,13 +154,13 @@ each-way s weight turns depth ways are P l u none some =
       | inr turn ↦ some turn
     ]
 
-ways-in : (s : Shape) (weight turns : ℕ → ℕ) (depth : ℕ) (ways : ℕ → List ℕ) → AreWays s weight turns depth ways →
+pub ways-in : (s : Shape) (weight turns : ℕ → ℕ) (depth : ℕ) (ways : ℕ → List ℕ) → AreWays s weight turns depth ways →
     (l : ℕ) → IsUpTo s.loops l → Each (IsUpTo s.arcs) (ways l)
 ways-in s weight turns depth ways are l u =
     each-way s weight turns depth ways are (Each (IsUpTo s.arcs)) l u tt
     (λ turn. way_in s (s.depth l) turn.round (s.header l) (ways l) turn.goes)
 
-path-in : (s : Shape) (weight : ℕ → ℕ) (path : List ℕ) (total : ℕ) → IsNest s → IsPath s weight path total →
+pub path-in : (s : Shape) (weight : ℕ → ℕ) (path : List ℕ) (total : ℕ) → IsNest s → IsPath s weight path total →
     Each (IsUpTo s.arcs) path
 path-in s weight path total nest is =
     subst (Each (IsUpTo s.arcs)) (sym is.begins)

@@ -8,3 +8,4 @@ pub mod Lifting
 pub mod Times
 pub mod Along
 pub mod Counting
+pub mod PutBack
