@@ -9,3 +9,6 @@ pub mod Times
 pub mod Along
 pub mod Counting
 pub mod PutBack
+pub mod Held
+pub mod NetShape
+pub mod Few
