@@ -12,3 +12,4 @@ pub mod PutBack
 pub mod Held
 pub mod NetShape
 pub mod Few
+pub mod Products

@@ -3,5 +3,6 @@ pub mod Shape
 pub mod Nets
 pub mod Ways
 pub mod Solved
+pub mod Crude
 pub mod Counted
 pub mod LeafWeights
