@@ -13,3 +13,4 @@ pub mod Held
 pub mod NetShape
 pub mod Few
 pub mod Products
+pub mod Priced
