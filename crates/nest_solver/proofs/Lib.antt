@@ -14,3 +14,4 @@ pub mod NetShape
 pub mod Few
 pub mod Products
 pub mod Priced
+pub mod Room
