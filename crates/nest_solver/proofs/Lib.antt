@@ -15,3 +15,4 @@ pub mod Few
 pub mod Products
 pub mod Priced
 pub mod Room
+pub mod CountRoom
