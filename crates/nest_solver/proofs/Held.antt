@@ -98,8 +98,8 @@ holds_told net scopes scope number (Some place) e = (
 )
 
 -- The test tells which scopes hold which places.
-pub held-told : (net : Net) → HasScopes net → TellsHeld net (holds_of net)
-held-told net scopes scope number = holds_told net scopes scope number (item_at number net.places) refl
+pub held-scopes : (net : Net) → HasScopes net → TellsHeld net (holds_of net)
+held-scopes net scopes scope number = holds_told net scopes scope number (item_at number net.places) refl
 
 -- What `Net::held` answers is this test.
 pub held-is : (net : Net) (scope number : ℕ) (b : Bool) → HasScopes net → OnTrue b (Holds net scope number) →
@@ -109,8 +109,8 @@ held-is net scope number b scopes holds apart = by b refl (holds_of net scope nu
     by : (t : Bool) → b ≡ t → (u : Bool) → holds_of net scope number ≡ u → b ≡ holds_of net scope number
     by true e true f = e ∙ sym f
     by true e false f =
-        absurd (true≢false (sym ((held-told net scopes scope number).1 (OnTrue_at e holds)) ∙ f))
-    by false e true f = absurd (OnFalse_at e apart ((held-told net scopes scope number).0 f))
+        absurd (true≢false (sym ((held-scopes net scopes scope number).1 (OnTrue_at e holds)) ∙ f))
+    by false e true f = absurd (OnFalse_at e apart ((held-scopes net scopes scope number).0 f))
     by false e false f = e ∙ sym f
 
 -- A scope that lies within another one is that scope, or deeper.

@@ -16,13 +16,17 @@ use Rattle.flow_net.proofs.Numbers.{item_at-there, item_at-all, item_at-within}
 use Rattle.flow_net.proofs.Chains.{within-zero, around, around-outward}
 use Rattle.flow_net.proofs.Holds.{holds-place, holds-line, holds-through}
 use Rattle.flow_net.proofs.Headers.{header-scope}
-use Rattle.ipet_program.specs.Scopes.{bound_of}
+use Rattle.ipet_program.specs.Scopes.{bound_of, TellsHeld}
 use Rattle.nest_solver.specs.Nets.{HasDepths, HasHeaders, AreUp, shape_of, holds_of, source_of, header_of, scope_of, round_by}
 use Rattle.nest_solver.specs.Shape.{Shape, IsNest, IsUpTo, IsAhead, IsRising, target, is_back}
 use Rattle.nest_solver.specs.Shape.IsAhead.{start, along}
 use Rattle.nest_solver.specs.Ways.{IsRound}
 use Rattle.nest_solver.proofs.Arcs.{back_by, back_from}
-use Rattle.nest_solver.proofs.Held.{held-told, within-deeper, around_small}
+use Rattle.nest_solver.proofs.Held.{held-scopes, within-deeper, around_small}
+
+-- The test tells which scopes hold which places.
+pub held-told : (net : Net) → IsNested net → TellsHeld net (holds_of net)
+held-told net nested = held-scopes net nested.scopes
 
 -- The arc, the loop and the place of a number.
 pub record IsItem {T : Type 0} (items : List T) (number : ℕ) : Type 0 where
@@ -67,7 +71,7 @@ module _ (net : Net) (nested : IsNested net) (depth headed : ℕ → ℕ) (depth
   s = shape_of net depth headed
 
   told : (scope number : ℕ) → (holds_of net scope number ≡ true) ↔ Holds net scope number
-  told = held-told net nested.scopes
+  told = held-told net nested
 
   told_not : (scope number : ℕ) → holds_of net scope number ≡ false → Holds net scope number → ⊥
   told_not scope number e held = true≢false (sym ((told scope number).1 held) ∙ e)
@@ -358,7 +362,7 @@ round_here net depths headed depth up nested has are p (Some place) e some =
     (
       found.up,
       found.deep,
-      (held-told net nested.scopes (up place.scope) p).1
+      (held-told net nested (up place.scope) p).1
           (record { place = place; there = e; within = found.within }),
     )
 
@@ -367,7 +371,7 @@ pub round-up : (net : Net) (depths headed : ℕ → ℕ) (depth : ℕ) (up : ℕ
 round-up net depths headed depth up nested has are =
     record {
       here = λ p some. round_here net depths headed depth up nested has are p (item_at p net.places) refl some;
-      all = λ l p u deep held. by l p u deep ((held-told net nested.scopes l p).0 held);
+      all = λ l p u deep held. by l p u deep ((held-told net nested l p).0 held);
     }
   where
     by : (l p : ℕ) → IsUpTo (length net.loops) l → depths l ≡ depth → Holds net l p → round_by net up p ≡ l
