@@ -16,3 +16,4 @@ pub mod Products
 pub mod Priced
 pub mod Room
 pub mod CountRoom
+pub mod Weak
