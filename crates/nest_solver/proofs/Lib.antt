@@ -17,3 +17,4 @@ pub mod Priced
 pub mod Room
 pub mod CountRoom
 pub mod Weak
+pub mod Rows

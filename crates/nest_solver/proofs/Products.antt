@@ -9,7 +9,7 @@ use Rattle.nest_solver.specs.Counted.{bit}
 use Rattle.nest_solver.specs.Crude.{grown}
 use Rattle.nest_solver.proofs.Sums.{up_more, up_last, sum-none, sum-only}
 
-product-same : (n : ℕ) (f g : ℕ → ℕ) → ((i : ℕ) → IsUpTo n i → f i ≡ g i) → product_to n f ≡ product_to n g
+pub product-same : (n : ℕ) (f g : ℕ → ℕ) → ((i : ℕ) → IsUpTo n i → f i ≡ g i) → product_to n f ≡ product_to n g
 product-same zero f g h = refl
 product-same (suc n) f g h =
     ap₂ (λ a b. a * b) (product-same n f g (λ i u. h i (up_more n i u))) (h (suc n) (up_last n))
