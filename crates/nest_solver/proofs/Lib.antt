@@ -18,3 +18,4 @@ pub mod Room
 pub mod CountRoom
 pub mod Weak
 pub mod Rows
+pub mod Greatest
