@@ -19,3 +19,4 @@ pub mod CountRoom
 pub mod Weak
 pub mod Rows
 pub mod Greatest
+pub mod Listed
