@@ -20,3 +20,4 @@ pub mod Weak
 pub mod Rows
 pub mod Greatest
 pub mod Listed
+pub mod LeafShown
