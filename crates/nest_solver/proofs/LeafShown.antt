@@ -1,4 +1,4 @@
--- A leaf with the multipliers of worths and turns is valid and shows the total.
+-- The multipliers of worths and turns give each column its value.
 use Rattle.std.proofs.Common.{◌≡◌, ◌⊎◌, ℕ, zero, suc, ◌+◌, ◌-◌, ◌*◌, ◌^◌, ◌<◌, ◌≤◌, ◌==◌, ◌&&◌, nat_le, not, Bool, true, false, cond, List, [], ◌∷◌, ◌++◌, length, map, flat_map, All, Option, Some, None, refl, sym, ap, ap₂, ◌∙◌, subst, inl, inr, arith, nat_abs, FitsSigned, append-nil, mul-le-mul, mul-le-mul_left, true≢false}
 use Rattle.std.specs.Int.{w128}
 use Rattle.std.proofs.lemmas.Bool.{cases_eq, cases_lt, cases_Bool}
@@ -63,7 +63,7 @@ sum-first : (n : ℕ) (f : ℕ → ℕ) → sum_to (suc n) f ≡ f 1 + sum_to n 
 sum-first zero f = omega arith
 sum-first (suc n) f = let rest = sum-first n f in omega arith
 
-total-rows : (places loops : ℕ) (f : ℕ → ℤ) →
+pub total-rows : (places loops : ℕ) (f : ℕ → ℤ) →
     total_to (places + 1 + loops) f
     ≡ (f 1 +ℤ total_to places (λ p. f (suc p))) +ℤ total_to loops (λ l. f (suc (places + l)))
 total-rows places loops f =
@@ -73,7 +73,7 @@ total-rows places loops f =
         (total_to-same (λ l. f (places + 1 + l)) (λ l. f (suc (places + l))) loops
         (λ l low high. ap f (let e : places + 1 + l ≡ suc (places + l) = omega arith in e)))
 
-sum-rows : (places loops : ℕ) (f : ℕ → ℕ) →
+pub sum-rows : (places loops : ℕ) (f : ℕ → ℕ) →
     sum_to (places + 1 + loops) f
     ≡ (f 1 + sum_to places (λ p. f (suc p))) + sum_to loops (λ l. f (suc (places + l)))
 sum-rows places loops f =
@@ -89,7 +89,7 @@ pub data IsRowOf (places loops : ℕ) : ℕ → Type 0 where
   place : (p : ℕ) → IsUpTo places p → IsRowOf places loops (suc p)
   loop : (l : ℕ) → IsUpTo loops l → IsRowOf places loops (suc (places + l))
 
-row-of : (places loops row : ℕ) → IsUpTo (places + 1 + loops) row → IsRowOf places loops row
+pub row-of : (places loops row : ℕ) → IsUpTo (places + 1 + loops) row → IsRowOf places loops row
 row-of places loops row u =
     elim (cases_eq row 1) as (λ _. IsRowOf places loops row) [
       | inl e ↦ subst (IsRowOf places loops) (sym e) first
@@ -109,14 +109,14 @@ pick_place r n a b c low high = grind (arith, nat_tests)
 pick_loop : (r n : ℕ) (a b c : ℤ) → 1 < r → n < r → cond (r == 1) a (cond (nat_le r n) b c) ≡ c
 pick_loop r n a b c low high = grind (arith, nat_tests)
 
-mult-place : (s : Shape) (total : ℕ) (worth turns : ℕ → ℕ) (p : ℕ) → IsUpTo s.places p →
+pub mult-place : (s : Shape) (total : ℕ) (worth turns : ℕ → ℕ) (p : ℕ) → IsUpTo s.places p →
     multiplier s total worth turns (suc p) ≡ pos (worth 0) -ℤ pos (worth p)
 mult-place s total worth turns p u =
     pick_place (suc p) (s.places + 1) (pos total) (pos (worth 0) -ℤ pos (worth (suc p - 1)))
     (pos (turns (suc p - (s.places + 1)))) (omega (arith, u)) (omega (arith, u))
     ∙ ap (λ (n : ℕ). pos (worth 0) -ℤ pos (worth n)) (let e : suc p - 1 ≡ p = omega arith in e)
 
-mult-loop : (s : Shape) (total : ℕ) (worth turns : ℕ → ℕ) (l : ℕ) → IsUpTo s.loops l →
+pub mult-loop : (s : Shape) (total : ℕ) (worth turns : ℕ → ℕ) (l : ℕ) → IsUpTo s.loops l →
     multiplier s total worth turns (suc (s.places + l)) ≡ pos (turns l)
 mult-loop s total worth turns l u =
     pick_loop (suc (s.places + l)) (s.places + 1) (pos total) (pos (worth 0) -ℤ pos (worth (suc (s.places + l) - 1)))
@@ -124,24 +124,24 @@ mult-loop s total worth turns l u =
     ∙ ap (λ (n : ℕ). pos (turns n)) (let e : suc (s.places + l) - (s.places + 1) ≡ l = omega arith in e)
 
 -- The factors of a column in the rows.
-abbrev place_fac : Shape → (column place : ℕ) → ℤ
+abbrev pub place_fac : Shape → (column place : ℕ) → ℤ
 place_fac s j p = pos (comes s p j) -ℤ pos (goes s p j)
 
-abbrev loop_fac : Shape → (column loop : ℕ) → ℤ
+abbrev pub loop_fac : Shape → (column loop : ℕ) → ℤ
 loop_fac s j l = pos (comes s (s.header l) j) -ℤ pos (s.bound l * goes_in s l j)
 
-abbrev factor_at : Shape → (column : ℕ) → (row : ℕ) → ℤ
+abbrev pub factor_at : Shape → (column : ℕ) → (row : ℕ) → ℤ
 factor_at s j row =
     cond (row == 1) (one_if (j == 1))
     (cond (nat_le row (s.places + 1)) (place_fac s j (row - 1)) (loop_fac s j (row - (s.places + 1))))
 
-factor-at_place : (s : Shape) (j p : ℕ) → IsUpTo s.places p → factor_at s j (suc p) ≡ place_fac s j p
+pub factor-at_place : (s : Shape) (j p : ℕ) → IsUpTo s.places p → factor_at s j (suc p) ≡ place_fac s j p
 factor-at_place s j p u =
     pick_place (suc p) (s.places + 1) (one_if (j == 1)) (place_fac s j (suc p - 1))
     (loop_fac s j (suc p - (s.places + 1))) (omega (arith, u)) (omega (arith, u))
     ∙ ap (place_fac s j) (let e : suc p - 1 ≡ p = omega arith in e)
 
-factor-at_loop : (s : Shape) (j l : ℕ) → IsUpTo s.loops l → factor_at s j (suc (s.places + l)) ≡ loop_fac s j l
+pub factor-at_loop : (s : Shape) (j l : ℕ) → IsUpTo s.loops l → factor_at s j (suc (s.places + l)) ≡ loop_fac s j l
 factor-at_loop s j l u =
     pick_loop (suc (s.places + l)) (s.places + 1) (one_if (j == 1)) (place_fac s j (suc (s.places + l) - 1))
     (loop_fac s j (suc (s.places + l) - (s.places + 1))) (omega (arith, u)) (omega (arith, u))
@@ -275,7 +275,7 @@ loops-column s turns j nest =
     difference = omega (arith, ints, same)
 
 -- All rows together.
-column-total : (s : Shape) (total : ℕ) (worth turns : ℕ → ℕ) (j : ℕ) → IsNest s → IsUpTo s.arcs j →
+pub column-total : (s : Shape) (total : ℕ) (worth turns : ℕ → ℕ) (j : ℕ) → IsNest s → IsUpTo s.arcs j →
     total_to (s.places + 1 + s.loops) (λ row. multiplier s total worth turns row *ℤ factor_at s j row)
     ≡ (pos total *ℤ one_if (j == 1) +ℤ (pos (worth (s.from j)) -ℤ pos (worth (s.to j))))
         +ℤ (pos (given s turns j) -ℤ pos (paid s turns j))
@@ -296,7 +296,7 @@ column-total s total worth turns j nest u =
         ∙ loops-column s turns j nest)
 
 -- Each column gets its value.
-column-pays : (s : Shape) (value turns worth : ℕ → ℕ) (depth total j : ℕ) → IsNest s →
+pub column-pays : (s : Shape) (value turns worth : ℕ → ℕ) (depth total j : ℕ) → IsNest s →
     IsDual s (weight_of s value turns) turns depth worth → ((l : ℕ) → IsUpTo s.loops l → s.depth l ≤ depth) →
     total + worth 0 ≡ weight_of s value turns 1 + worth (s.to 1) → IsUpTo s.arcs j →
     value j + paid s turns j + worth (s.to j) ≤ total * bit (j == 1) + worth (s.from j) + given s turns j

@@ -21,3 +21,4 @@ pub mod Rows
 pub mod Greatest
 pub mod Listed
 pub mod LeafShown
+pub mod LeafValid
