@@ -24,7 +24,7 @@ use Rattle.nest_solver.specs.Nets.{HasDepths, HasHeaders, shape_of, holds_of, va
 use Rattle.nest_solver.specs.Shape.{Shape, IsNest, IsUpTo, target}
 use Rattle.nest_solver.specs.Solved.{paid, weight_of, IsDual}
 use Rattle.nest_solver.specs.Counted.{bit, enters, returns}
-use Rattle.nest_solver.specs.LeafWeights.{multiplier, weights_to, IsLeafOf}
+use Rattle.nest_solver.specs.LeafWeights.{multiplier, weights_to, IsLeafOf, AreSmall}
 use Rattle.nest_solver.proofs.Sums.{sum-same, sum-le, sum-add, sum-scale, sum-none, sum-only}
 use Rattle.nest_solver.proofs.Times.{bit_same, bit_other}
 use Rattle.nest_solver.proofs.Arcs.{target-is}
@@ -146,3 +146,165 @@ module _ (net : Net) (depths headed : ℕ → ℕ) where
       subst (IsSigned (multiplier s total worth turns (suc (length net.places + l))))
       (sym (loop-row l found.item found.there v))
       (λ e. subst (λ (z : ℤ). pos 0 ≤ℤ z) (sym (mult-loop s total worth turns l v)) (omega (arith, ints)))
+
+  -- ---- Sizes.
+  one_size : (total j : ℕ) → nat_abs (pos total *ℤ one_if (j == 1)) ≤ total
+  one_size total j = by (j == 1)
+    where
+      by : (t : Bool) → nat_abs (pos total *ℤ one_if t) ≤ total
+      by true = omega (arith, ints)
+      by false = omega (arith, ints)
+
+  diff_size : (c g : ℕ) → nat_abs (pos c -ℤ pos g) ≤ c + g
+  diff_size c g = omega (arith, ints)
+
+  apart_size : (a b most : ℕ) → a ≤ most → b ≤ most → nat_abs (pos a -ℤ pos b) ≤ most
+  apart_size a b most low high = omega (arith, ints)
+
+  place-most : (worth : ℕ → ℕ) (most j p : ℕ) → ((q : ℕ) → worth q ≤ most) →
+      nat_abs ((pos (worth 0) -ℤ pos (worth p)) *ℤ place_fac s j p) ≤ most * comes s p j + most * goes s p j
+  place-most worth most j p small =
+      omega (
+        arith,
+        abs-product (pos (worth 0) -ℤ pos (worth p)) (place_fac s j p),
+        mul-le-mul (apart_size (worth 0) (worth p) most (small 0) (small p)) (diff_size (comes s p j) (goes s p j)),
+      )
+
+  loop-most : (turns : ℕ → ℕ) (most j l : ℕ) → IsNest s → IsUpTo (length net.loops) l →
+      turns l * (s.bound l + 1) ≤ most →
+      nat_abs (pos (turns l) *ℤ loop_fac s j l) ≤ most * bit (target s j == l)
+  loop-most turns most j l nest u small =
+      omega (
+        arith,
+        abs-product (pos (turns l)) (loop_fac s j l),
+        mul-le-mul_left (turns l) (diff_size (comes s (s.header l) j) (s.bound l * goes_in s l j)),
+        by (cases_eq (s.to j) (s.header l)),
+      )
+    where
+      in_low : (b h : Bool) → bit (b && not h) ≤ bit b
+      in_low true true = omega arith
+      in_low true false = omega arith
+      in_low false h = omega arith
+
+      by : (s.to j ≡ s.header l) ⊎ (s.to j ≡ s.header l → ⊥) →
+          turns l * (comes s (s.header l) j + s.bound l * goes_in s l j) ≤ most * bit (target s j == l)
+      by (inl e) = omega (
+        arith,
+        small,
+        ap (λ n. most * n) (bit_same (target s j) l (target-is s nest j l u e)),
+        mul-le-mul_left (turns l * s.bound l) (in_low (s.to j == s.header l) (s.holds l (s.from j))),
+        ap (λ n. turns l * s.bound l * n) (bit_same (s.to j) (s.header l) e),
+        ap (λ n. turns l * n) (bit_same (s.to j) (s.header l) e),
+      )
+      by (inr other) = omega (
+        arith,
+        mul-le-mul_left (turns l * s.bound l) (in_low (s.to j == s.header l) (s.holds l (s.from j))),
+        ap (λ n. turns l * s.bound l * n) (bit_other (s.to j) (s.header l) other),
+        ap (λ n. turns l * n) (bit_other (s.to j) (s.header l) other),
+      )
+
+  column-size : (total : ℕ) (worth turns : ℕ → ℕ) (most j : ℕ) → IsNest s → total ≤ most →
+      ((q : ℕ) → worth q ≤ most) → ((l : ℕ) → IsUpTo (length net.loops) l → turns l * (s.bound l + 1) ≤ most) →
+      sum_to (s.places + 1 + s.loops) (λ row. nat_abs (multiplier s total worth turns row *ℤ factor_at s j row)) ≤ 4 * most
+  column-size total worth turns most j nest low small few =
+      omega (
+        arith,
+        low,
+        sum-rows s.places s.loops (λ row. nat_abs (multiplier s total worth turns row *ℤ factor_at s j row)),
+        one_size total j,
+        sum-le s.places
+            (λ p. nat_abs (multiplier s total worth turns (suc p) *ℤ factor_at s j (suc p)))
+            (λ p. most * comes s p j + most * goes s p j)
+            (λ p v. subst (λ (z : ℤ). nat_abs z ≤ most * comes s p j + most * goes s p j)
+            (sym (ap₂ (λ (y z : ℤ). y *ℤ z) (mult-place s total worth turns p v) (factor-at_place s j p v)))
+            (place-most worth most j p small)),
+        sum-add s.places (λ p. most * comes s p j) (λ p. most * goes s p j),
+        sum-scale s.places most (λ p. comes s p j),
+        sum-scale s.places most (λ p. goes s p j),
+        mul-le-mul_left most (one_most s.places (s.to j)),
+        mul-le-mul_left most (one_most s.places (s.from j)),
+        sum-le s.loops
+            (λ l. nat_abs (multiplier s total worth turns (suc (s.places + l)) *ℤ factor_at s j (suc (s.places + l))))
+            (λ l. most * bit (target s j == l))
+            (λ l v. subst (λ (z : ℤ). nat_abs z ≤ most * bit (target s j == l))
+            (sym (ap₂ (λ (y z : ℤ). y *ℤ z) (mult-loop s total worth turns l v) (factor-at_loop s j l v)))
+            (loop-most turns most j l nest v (few l v))),
+        sum-scale s.loops most (λ l. bit (target s j == l)),
+        mul-le-mul_left most (one_most s.loops (target s j)),
+      )
+
+  -- ---- The leaf.
+  abbrev weights : (total : ℕ) (worth turns : ℕ → ℕ) → List Weight
+  weights total worth turns = weights_to (multiplier s total worth turns) (s.places + 1 + s.loops)
+
+  shown-column : (total : ℕ) (worth turns : ℕ → ℕ) (j : ℕ) → IsNest s → IsUpTo (length net.arcs) j →
+      total_of (column_parts rows (weights total worth turns) j)
+      ≡ (pos total *ℤ one_if (j == 1) +ℤ (pos (worth (s.from j)) -ℤ pos (worth (s.to j))))
+          +ℤ (pos (Rattle.nest_solver.proofs.Weak.given s turns j) -ℤ pos (paid s turns j))
+  shown-column total worth turns j nest u =
+      weights-total (λ (weight : Weight). parts_in j weight.times (item_at weight.row rows))
+      (multiplier s total worth turns) (factor_at s j) (s.places + 1 + s.loops)
+      (λ row v. row-given (multiplier s total worth turns row) j row u (row-of s.places s.loops row v))
+      ∙ column-total s total worth turns j nest u
+
+  shown-fit : (total : ℕ) (worth turns : ℕ → ℕ) (j : ℕ) → IsNest s → AreSmall s total worth turns →
+      IsUpTo (length net.arcs) j → FitFrom (pos 0) (column_parts rows (weights total worth turns) j)
+  shown-fit total worth turns j nest small u =
+      fit-size (pos 0) (column_parts rows (weights total worth turns) j)
+      (omega (
+        arith,
+        column-size total worth turns (2 ^ 120) j nest small.total_small small.worths small.turned,
+        weights-size (λ (weight : Weight). parts_in j weight.times (item_at weight.row rows))
+            (multiplier s total worth turns)
+            (λ row. nat_abs (multiplier s total worth turns row *ℤ factor_at s j row)) (s.places + 1 + s.loops)
+            (λ row v. row-size (multiplier s total worth turns row) j row u (row-of s.places s.loops row v)),
+      ))
+
+  right_one : (times : ℤ) → total_of ((times *ℤ one_if true) ∷ []) ≡ times *ℤ pos 1
+  right_one times = omega (arith, ints)
+
+  part_one : (z : ℤ) → total_of (z ∷ []) ≡ z
+  part_one z = omega (arith, ints)
+
+  shown-right : (total : ℕ) (worth turns : ℕ → ℕ) → total_of (right_parts rows (weights total worth turns)) ≡ pos total
+  shown-right total worth turns =
+      weights-total (λ (weight : Weight). right_part weight.times (item_at weight.row rows))
+      (multiplier s total worth turns) (λ row. one_if (row == 1)) (s.places + 1 + s.loops)
+      (λ row v. ap total_of (right-given (multiplier s total worth turns row) row (row-of s.places s.loops row v))
+      ∙ part_one (multiplier s total worth turns row *ℤ one_if (row == 1)))
+      ∙ total_to-one (λ row. multiplier s total worth turns row *ℤ one_if (row == 1)) (s.places + 1 + s.loops) 1
+          (omega arith) (omega arith)
+          (λ row differ. ap (λ (t : Bool). multiplier s total worth turns row *ℤ one_if t)
+          (Rattle.std.proofs.lemmas.Bool.ne_eqb row 1 differ) ∙ omega (arith, ints))
+      ∙ omega (arith, ints)
+
+  right-size : (total : ℕ) (worth turns : ℕ → ℕ) →
+      size (right_parts rows (weights total worth turns)) ≤ total
+  right-size total worth turns =
+      omega (
+        arith,
+        weights-size (λ (weight : Weight). right_part weight.times (item_at weight.row rows))
+            (multiplier s total worth turns) (λ row. total * bit (row == 1)) (s.places + 1 + s.loops)
+            (λ row v. subst (λ (parts : List ℤ). size parts ≤ total * bit (row == 1))
+            (sym (right-given (multiplier s total worth turns row) row (row-of s.places s.loops row v)))
+            (one row)),
+        sum-only (s.places + 1 + s.loops) 1 (λ row. total * bit (row == 1)) (omega arith)
+            (λ row v differ. ap (λ n. total * n) (bit_other row 1 differ) ∙ omega arith),
+        ap (λ n. total * n) (bit_same 1 1 refl),
+      )
+    where
+      one : (row : ℕ) → nat_abs (multiplier s total worth turns row *ℤ one_if (row == 1)) + 0 ≤ total * bit (row == 1)
+      one row = elim (cases_eq row 1)
+          as (λ _. nat_abs (multiplier s total worth turns row *ℤ one_if (row == 1)) + 0 ≤ total * bit (row == 1)) [
+            | inl e ↦ subst (λ (r : ℕ). nat_abs (multiplier s total worth turns r *ℤ one_if (r == 1)) + 0
+                ≤ total * bit (r == 1)) (sym e) (omega (arith, ints))
+            | inr differ ↦ omega (
+              arith,
+              ap (λ (t : Bool). nat_abs (multiplier s total worth turns row *ℤ one_if t))
+                  (Rattle.std.proofs.lemmas.Bool.ne_eqb row 1 differ),
+              none (multiplier s total worth turns row),
+            )
+          ]
+        where
+          none : (z : ℤ) → nat_abs (z *ℤ pos 0) ≡ 0
+          none z = omega (arith, abs-product z (pos 0))
