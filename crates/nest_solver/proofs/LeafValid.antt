@@ -1,4 +1,4 @@
--- A leaf with the multipliers of worths and turns is valid and shows the total.
+-- What the rows of a net's program give to columns and to the right side, by the multipliers of worths and turns.
 use Rattle.std.proofs.Common.{◌≡◌, ◌⊎◌, ℕ, zero, suc, ◌+◌, ◌-◌, ◌*◌, ◌^◌, ◌<◌, ◌≤◌, ◌==◌, ◌&&◌, not, Bool, true, false, cond, List, [], ◌∷◌, ◌++◌, length, map, flat_map, All, Option, Some, None, refl, sym, ap, ap₂, ◌∙◌, subst, inl, inr, arith, nat_abs, FitsSigned, append-nil, mul-le-mul, mul-le-mul_left, mul-le-mul_right, true≢false}
 use Rattle.std.specs.Int.{w128}
 use Rattle.std.proofs.lemmas.Bool.{cases_eq, cases_lt, cases_Bool}
@@ -130,13 +130,13 @@ module _ (net : Net) (depths headed : ℕ → ℕ) where
       other : (row : ℕ) → 1 < row → one_if (row == 1) ≡ pos 0
       other row less = ap one_if (Rattle.std.proofs.lemmas.Bool.ne_eqb row 1 (λ e. omega (arith, e, less)))
 
-  row-there : (row : ℕ) → IsRowOf (length net.places) (length net.loops) row → IsNumberOf rows row
+  pub row-there : (row : ℕ) → IsRowOf (length net.places) (length net.loops) row → IsNumberOf rows row
   row-there _ first = item_at-within rows 1 (entry_row (length net.arcs)) refl
   row-there _ (place p v) = item_at-within rows (suc p) (place_row net.arcs p) (row-place net (holds_of net) p v)
   row-there _ (loop l v) =
       item_at-within rows (suc (length net.places + l)) (loop_row net (holds_of net) l) (row-loop net (holds_of net) l v)
 
-  row-signed : (total : ℕ) (worth turns : ℕ → ℕ) (row : ℕ) → IsRowOf (length net.places) (length net.loops) row →
+  pub row-signed : (total : ℕ) (worth turns : ℕ → ℕ) (row : ℕ) → IsRowOf (length net.places) (length net.loops) row →
       IsSigned (multiplier s total worth turns row) (item_at row rows)
   row-signed total worth turns _ first = λ e. absurd (true≢false e)
   row-signed total worth turns _ (place p v) =
@@ -234,10 +234,10 @@ module _ (net : Net) (depths headed : ℕ → ℕ) where
       )
 
   -- ---- The leaf.
-  abbrev weights : (total : ℕ) (worth turns : ℕ → ℕ) → List Weight
+  abbrev pub weights : (total : ℕ) (worth turns : ℕ → ℕ) → List Weight
   weights total worth turns = weights_to (multiplier s total worth turns) (s.places + 1 + s.loops)
 
-  shown-column : (total : ℕ) (worth turns : ℕ → ℕ) (j : ℕ) → IsNest s → IsUpTo (length net.arcs) j →
+  pub shown-column : (total : ℕ) (worth turns : ℕ → ℕ) (j : ℕ) → IsNest s → IsUpTo (length net.arcs) j →
       total_of (column_parts rows (weights total worth turns) j)
       ≡ (pos total *ℤ one_if (j == 1) +ℤ (pos (worth (s.from j)) -ℤ pos (worth (s.to j))))
           +ℤ (pos (Rattle.nest_solver.proofs.Weak.given s turns j) -ℤ pos (paid s turns j))
@@ -247,7 +247,7 @@ module _ (net : Net) (depths headed : ℕ → ℕ) where
       (λ row v. row-given (multiplier s total worth turns row) j row u (row-of s.places s.loops row v))
       ∙ column-total s total worth turns j nest u
 
-  shown-fit : (total : ℕ) (worth turns : ℕ → ℕ) (j : ℕ) → IsNest s → AreSmall s total worth turns →
+  pub shown-fit : (total : ℕ) (worth turns : ℕ → ℕ) (j : ℕ) → IsNest s → AreSmall s total worth turns →
       IsUpTo (length net.arcs) j → FitFrom (pos 0) (column_parts rows (weights total worth turns) j)
   shown-fit total worth turns j nest small u =
       fit-size (pos 0) (column_parts rows (weights total worth turns) j)
@@ -266,7 +266,7 @@ module _ (net : Net) (depths headed : ℕ → ℕ) where
   part_one : (z : ℤ) → total_of (z ∷ []) ≡ z
   part_one z = omega (arith, ints)
 
-  shown-right : (total : ℕ) (worth turns : ℕ → ℕ) → total_of (right_parts rows (weights total worth turns)) ≡ pos total
+  pub shown-right : (total : ℕ) (worth turns : ℕ → ℕ) → total_of (right_parts rows (weights total worth turns)) ≡ pos total
   shown-right total worth turns =
       weights-total (λ (weight : Weight). right_part weight.times (item_at weight.row rows))
       (multiplier s total worth turns) (λ row. one_if (row == 1)) (s.places + 1 + s.loops)
@@ -278,7 +278,7 @@ module _ (net : Net) (depths headed : ℕ → ℕ) where
           (Rattle.std.proofs.lemmas.Bool.ne_eqb row 1 differ) ∙ omega (arith, ints))
       ∙ omega (arith, ints)
 
-  right-size : (total : ℕ) (worth turns : ℕ → ℕ) →
+  pub right-size : (total : ℕ) (worth turns : ℕ → ℕ) →
       size (right_parts rows (weights total worth turns)) ≤ total
   right-size total worth turns =
       omega (

@@ -22,3 +22,4 @@ pub mod Greatest
 pub mod Listed
 pub mod LeafShown
 pub mod LeafValid
+pub mod LeafLaw

@@ -90,7 +90,7 @@ ends-same s v x nest keeps =
 abbrev pub given : Shape → (turns : ℕ → ℕ) → ℕ → ℕ
 given s turns i = sum_to s.loops (λ l. turns l * bit (returns s l i))
 
-given-back : (s : Shape) (turns : ℕ → ℕ) (i : ℕ) → IsNest s → is_back s i ≡ true → given s turns i ≡ turns (target s i)
+pub given-back : (s : Shape) (turns : ℕ → ℕ) (i : ℕ) → IsNest s → is_back s i ≡ true → given s turns i ≡ turns (target s i)
 given-back s turns i nest e =
     sum-only s.loops (target s i) (λ l. turns l * bit (returns s l i)) (back-of s nest i e).up
     (λ l u n. ap (λ b. turns l * b) (returns_other s l i (λ is. n (sym is))) ∙ omega arith)
