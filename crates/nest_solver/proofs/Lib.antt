@@ -23,3 +23,4 @@ pub mod Listed
 pub mod LeafShown
 pub mod LeafValid
 pub mod LeafLaw
+pub mod Facing
