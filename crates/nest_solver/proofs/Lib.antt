@@ -24,3 +24,4 @@ pub mod LeafShown
 pub mod LeafValid
 pub mod LeafLaw
 pub mod Facing
+pub mod Putting

@@ -5,4 +5,5 @@ pub mod Ways
 pub mod Solved
 pub mod Crude
 pub mod Counted
+pub mod Putting
 pub mod LeafWeights
