@@ -25,3 +25,4 @@ pub mod LeafValid
 pub mod LeafLaw
 pub mod Facing
 pub mod Putting
+pub mod Best

@@ -7,3 +7,4 @@ pub mod Crude
 pub mod Counted
 pub mod Putting
 pub mod LeafWeights
+pub mod Answers
