@@ -26,3 +26,4 @@ pub mod LeafLaw
 pub mod Facing
 pub mod Putting
 pub mod Best
+pub mod Answering
