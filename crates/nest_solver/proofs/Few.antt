@@ -1,21 +1,18 @@
 -- A nested net has no more places and loops than arcs.
-use Rattle.std.proofs.Common.{◌≡◌, ◌⊎◌, ℕ, zero, suc, ◌+◌, ◌*◌, ◌<◌, ◌≤◌, ◌==◌, Bool, true, false, List, [], ◌∷◌, length, Some, refl, sym, ap, ◌∙◌, subst, inl, inr, arith, true≢false}
-use Rattle.std.proofs.lemmas.Bool.{cases_eq, cases_lt, cases_Bool}
-use Rattle.flow_net.specs.Numbers.{item_at, IsNumberOf}
-use Rattle.flow_net.specs.Scopes.{Holds}
+use Rattle.std.proofs.Common.{◌≡◌, ℕ, zero, suc, ◌+◌, ◌≤◌, ◌==◌, List, [], ◌∷◌, length, refl, ap, ◌∙◌, subst, inl, inr, arith}
+use Rattle.std.proofs.lemmas.Bool.{cases_eq}
 use Rattle.flow_net.specs.Nested.{IsNested}
 use Rattle.flow_net.specs.Paths.{IsPath, IsRunPath}
 use Rattle.flow_net.specs.declared.net.Net.{Net}
-use Rattle.flow_net.specs.declared.net.NetArc.{NetArc}
 use Rattle.flow_net.proofs.Numbers.{item_at-within}
 use Rattle.flow_net.proofs.Headers.{enters-each}
 use Rattle.ipet_program.specs.Sums.{sum_to}
-use Rattle.nest_solver.specs.Nets.{HasDepths, HasHeaders, shape_of, holds_of}
-use Rattle.nest_solver.specs.Shape.{Shape, IsNest, IsUpTo}
+use Rattle.nest_solver.specs.Nets.{HasDepths, HasHeaders, shape_of}
+use Rattle.nest_solver.specs.Shape.{Shape, IsUpTo}
 use Rattle.nest_solver.specs.Counted.{bit}
-use Rattle.nest_solver.proofs.Sums.{sum-le, sum-none, sum-only, sum-swap, sum-part}
+use Rattle.nest_solver.proofs.Sums.{sum-le, sum-none, sum-swap, sum-part}
 use Rattle.nest_solver.proofs.Times.{bit_same, bit_other}
-use Rattle.nest_solver.proofs.NetShape.{shape-nest, loop-at}
+use Rattle.nest_solver.proofs.NetShape.{loop-at}
 
 sum_ones : (n : ℕ) → sum_to n (λ i. 1) ≡ n
 sum_ones zero = refl
@@ -82,8 +79,7 @@ loops-few net depth headed nested depths headers =
     let enters = enters-each net nested l loop.item loop.there in
     let within = item_at-within net.arcs enters.number enters.arc enters.there in
     let end : enters.arc.to ≡ loop.item.header =
-    nested.entering enters.number l enters.arc loop.item enters.there loop.there enters.inside enters.outside in
-    (
+    nested.entering enters.number l enters.arc loop.item enters.there loop.there enters.inside enters.outside in (
       enters.number,
       (within.from_one, within.within),
       ap (λ found. headed (Rattle.flow_net.specs.Visits.target_of found)) enters.there

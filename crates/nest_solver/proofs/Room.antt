@@ -1,21 +1,21 @@
 -- Ways, weights and the bound have room in 64 bits: none is above the crude bound.
-use Rattle.std.proofs.Common.{◌≡◌, ◌⊎◌, ℕ, zero, suc, ◌+◌, ◌-◌, ◌*◌, ◌<◌, ◌≤◌, ◌==◌, ◌&&◌, ◌||◌, nat_lt, cond, Bool, true, false, refl, sym, ap, ap₂, ◌∙◌, subst, inl, inr, arith, mul-le-mul_left, mul-le-mul, true≢false}
+use Rattle.std.proofs.Common.{◌≡◌, ◌⊎◌, ℕ, zero, suc, ◌+◌, ◌*◌, ◌<◌, ◌≤◌, ◌==◌, ◌&&◌, ◌||◌, nat_lt, Bool, true, false, refl, sym, ap, ◌∙◌, subst, inl, inr, arith, mul-le-mul_left, true≢false}
 use Rattle.std.proofs.lemmas.Bool.{cases_eq, cases_lt, cases_Bool}
 use Rattle.std.proofs.lemmas.Bool.Decides.{nat_tests}
 use Rattle.ipet_program.specs.Sums.{sum_to}
 use Rattle.nest_solver.specs.Shape.{Shape, IsNest, IsUpTo, target, is_back, is_entering}
 use Rattle.nest_solver.specs.Nets.{value_at_end}
 use Rattle.nest_solver.specs.Ways.{IsRound, IsSwept, HasRoom, closes, goes_on}
-use Rattle.nest_solver.specs.Solved.{paid, weight_of, IsSolved, AreSolved}
+use Rattle.nest_solver.specs.Solved.{weight_of, IsSolved, AreSolved}
 use Rattle.nest_solver.specs.Counted.{bit}
 use Rattle.nest_solver.specs.Crude.{grown, IsCrude}
-use Rattle.nest_solver.proofs.Sums.{sum-same, sum-le, sum-add, sum-none, sum-only, sum-part}
+use Rattle.nest_solver.proofs.Sums.{sum-le, sum-add, sum-none, sum-only, sum-part}
 use Rattle.nest_solver.proofs.Times.{bit_same}
 use Rattle.nest_solver.proofs.Arcs.{back-of, back-from, entering-of, closes-out, goes_on-out, deeper}
 use Rattle.nest_solver.proofs.Solving.{paid-some, paid-none, closes_not_entering}
 use Rattle.nest_solver.proofs.Forward.{swept-small}
 use Rattle.nest_solver.proofs.Products.{grown-most}
-use Rattle.nest_solver.proofs.Priced.{sum_in, priced, extra, carried, Takes, Covers, takes-all, takes-loop, covers-none, covers-level}
+use Rattle.nest_solver.proofs.Priced.{sum_in, priced, carried, Takes, Covers, takes-all, takes-loop, covers-none, covers-level}
 
 -- Sets in one another.
 in_le : (a b : Bool) (x : ℕ) → (a ≡ true → b ≡ true) → bit a * x ≤ bit b * x
@@ -113,7 +113,7 @@ most_in s rank round price turns depth p = sum_in s (after_in s rank round p) (p
 
 goes_in : (s : Shape) (rank round price turns : ℕ → ℕ) (depth i : ℕ) → IsNest s → IsRound s (suc depth) round →
     ((j : ℕ) → IsUpTo s.arcs j → 0 < s.from j → 0 < s.to j → is_back s j ≡ false →
-        rank (s.from j) < rank (s.to j)) →
+    rank (s.from j) < rank (s.to j)) →
     IsUpTo s.arcs i → goes_on s (suc depth) round i ≡ true →
     weight_of s (value_at_end s price) turns i + most_in s rank round price turns (suc depth) (s.to i)
     ≤ most_in s rank round price turns (suc depth) (s.from i)
@@ -121,25 +121,25 @@ goes_in s rank round price turns depth i nest rounds rises u on =
     let goes = goes_on-out s (suc depth) round i on in
     elim goes.inside
     as (λ _. weight_of s (value_at_end s price) turns i + most_in s rank round price turns (suc depth) (s.to i)
-        ≤ most_in s rank round price turns (suc depth) (s.from i)) [
+    ≤ most_in s rank round price turns (suc depth) (s.from i)) [
       | inl z ↦ absurd (omega (arith, z))
       | inr same ↦
-        let less = rises i u goes.from goes.to goes.forward in
-        let here = rounds.here (s.from i) same.0 in
-        omega (
-          arith,
-          weight-priced s price turns (suc depth) i nest
-              (λ into. deeper s nest (suc depth) round i rounds on into),
-          in-with s (after_in s rank round (s.to i)) (after_in s rank round (s.from i))
-              (priced s price turns (suc depth)) (s.to i) (goes.to, nest.ends i u)
-              (λ q e. more same.1 less q e)
-              (after_not (round (s.to i)) (round (s.to i)) (rank (s.to i)) (rank (s.to i))
-              (s.header (round (s.to i))) (s.to i) (omega arith)
-              (λ e. true≢false (sym (back-from s nest i (round (s.from i)) here.0
-              (e ∙ ap s.header (sym same.1)) here.2) ∙ goes.forward)))
-              (after_from (round (s.from i)) (round (s.to i)) (rank (s.from i)) (rank (s.to i))
-              (s.header (round (s.from i))) (s.to i) same.0 (sym same.1) (inl less)),
-        )
+          let less = rises i u goes.from goes.to goes.forward in
+          let here = rounds.here (s.from i) same.0 in
+          omega (
+            arith,
+            weight-priced s price turns (suc depth) i nest
+                (λ into. deeper s nest (suc depth) round i rounds on into),
+            in-with s (after_in s rank round (s.to i)) (after_in s rank round (s.from i))
+                (priced s price turns (suc depth)) (s.to i) (goes.to, nest.ends i u)
+                (λ q e. more same.1 less q e)
+                (after_not (round (s.to i)) (round (s.to i)) (rank (s.to i)) (rank (s.to i))
+                (s.header (round (s.to i))) (s.to i) (omega arith)
+                (λ e. true≢false (sym (back-from s nest i (round (s.from i)) here.0
+                (e ∙ ap s.header (sym same.1)) here.2) ∙ goes.forward)))
+                (after_from (round (s.from i)) (round (s.to i)) (rank (s.from i)) (rank (s.to i))
+                (s.header (round (s.from i))) (s.to i) same.0 (sym same.1) (inl less)),
+          )
     ]
   where
     more : round (s.from i) ≡ round (s.to i) → rank (s.from i) < rank (s.to i) → (q : ℕ) →
@@ -161,19 +161,19 @@ ends_in s rank round price turns depth i nest rounds c =
     as (λ _. weight_of s (value_at_end s price) turns i ≤ most_in s rank round price turns (suc depth) (s.from i)) [
       | inl z ↦ absurd (omega (arith, z))
       | inr back ↦
-        let is = back-of s nest i back.1 in
-        let from : round (s.from i) ≡ target s i = rounds.all (target s i) (s.from i) is.up back.2 is.source in
-        let to : round (s.to i) ≡ target s i = rounds.all (target s i) (s.to i) is.up back.2 is.held in
-        omega (
-          arith,
-          weight-priced s price turns (suc depth) i nest
-              (λ into. absurd (true≢false (sym into ∙ closes_not_entering s nest (suc depth) i c))),
-          in_one s (after_in s rank round (s.from i)) (priced s price turns (suc depth)) (s.to i)
-              (omega (arith, is.header, nest.headers (target s i) is.up))
-              (after_from (round (s.from i)) (round (s.to i)) (rank (s.from i)) (rank (s.to i))
-              (s.header (round (s.from i))) (s.to i) (omega (arith, from, is.up)) (to ∙ sym from)
-              (inr (is.header ∙ ap s.header (sym from)))),
-        )
+          let is = back-of s nest i back.1 in
+          let from : round (s.from i) ≡ target s i = rounds.all (target s i) (s.from i) is.up back.2 is.source in
+          let to : round (s.to i) ≡ target s i = rounds.all (target s i) (s.to i) is.up back.2 is.held in
+          omega (
+            arith,
+            weight-priced s price turns (suc depth) i nest
+                (λ into. absurd (true≢false (sym into ∙ closes_not_entering s nest (suc depth) i c))),
+            in_one s (after_in s rank round (s.from i)) (priced s price turns (suc depth)) (s.to i)
+                (omega (arith, is.header, nest.headers (target s i) is.up))
+                (after_from (round (s.from i)) (round (s.to i)) (rank (s.from i)) (rank (s.to i))
+                (s.header (round (s.from i))) (s.to i) (omega (arith, from, is.up)) (to ∙ sym from)
+                (inr (is.header ∙ ap s.header (sym from)))),
+          )
     ]
 
 -- Inside a loop no way weighs more than its places come to.

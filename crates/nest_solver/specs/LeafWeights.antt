@@ -1,5 +1,5 @@
 -- The multipliers of the rows of a net's program.
-use Rattle.std.specs.Prelude.{◌≡◌, ℕ, zero, suc, ◌+◌, ◌-◌, ◌*◌, ◌^◌, ◌<◌, ◌≤◌, ◌==◌, nat_le, ℤ, pos, negsuc, ◌-ℤ◌, List, [], ◌∷◌, ◌++◌, false, if◌then◌else◌}
+use Rattle.std.specs.Prelude.{◌≡◌, ℕ, zero, suc, ◌+◌, ◌-◌, ◌*◌, ◌^◌, ◌≤◌, ◌==◌, nat_le, ℤ, pos, ◌-ℤ◌, List, [], ◌∷◌, ◌++◌, false, if◌then◌else◌}
 use Rattle.ipet_program.specs.declared.leaf.Leaf.{Leaf}
 use Rattle.ipet_program.specs.declared.leaf.Weight.{Weight}
 use Rattle.nest_solver.specs.Shape.{Shape, IsUpTo}

@@ -1,6 +1,6 @@
 -- Loops taken together by depth, the deepest first: how much the longest turn of each loop weighs, and
 -- what an arc that enters it then weighs.
-use Rattle.std.specs.Prelude.{◌≡◌, ℕ, suc, ◌+◌, ◌-◌, ◌*◌, ◌<◌, ◌≤◌, ◌==◌, ◌&&◌, nat_lt, max, true, false, if◌then◌else◌}
+use Rattle.std.specs.Prelude.{◌≡◌, ℕ, ◌+◌, ◌-◌, ◌*◌, ◌<◌, ◌≤◌, ◌==◌, ◌&&◌, nat_lt, max, true, false, if◌then◌else◌}
 use Rattle.nest_solver.specs.Shape.{Shape, IsUpTo, target, is_back, is_entering}
 use Rattle.nest_solver.specs.Ways.{IsRound, IsSwept}
 

@@ -44,7 +44,7 @@ IsWay s depth round from [] = ⊥
 IsWay s depth round from (i ∷ more) =
     IsUpTo s.arcs i × (s.from i ≡ from)
     × (((closes s depth i ≡ true) × (more ≡ []))
-        ⊎ ((goes_on s depth round i ≡ true) × IsWay s depth round (s.to i) more))
+    ⊎ ((goes_on s depth round i ≡ true) × IsWay s depth round (s.to i) more))
 
 -- What a way of the depth may weigh from each place on, with weights that fit 64 bits.
 pub record HasRoom (s : Shape) (depth : ℕ) (round weight : ℕ → ℕ) (limit : ℕ) : Type 0 where
