@@ -25,6 +25,7 @@ use Rattle.nest_solver.proofs.Putting.{counted-same}
 use Rattle.nest_solver.proofs.Greatest.{greatest-counts, counts-best}
 use Rattle.nest_solver.proofs.LeafLaw.{leaf-shows}
 use Rattle.nest_solver.proofs.Best.{weights-first, counts-named, counts-rising, counts-taken, counts-listed}
+use Rattle.nest_solver.specs.Crude.{IsCrude}
 
 -- Each arc to a place has a value, since each place costs something.
 pub values-some : (net : Net) (price : ℕ → ℕ) (program : Program) (depths headed : ℕ → ℕ) (i : ℕ) →
@@ -35,7 +36,7 @@ values-some net price program depths headed i nest is u low =
 
 pub crude-tables : (net : Net) (price : ℕ → ℕ) (program : Program) (depths headed : ℕ → ℕ) → IsNested net →
     HasDepths net depths → HasHeaders net headed → IsProgramOf net price program →
-    Rattle.nest_solver.specs.Crude.IsCrude (shape_of net depths headed) price crude_limit
+    IsCrude (shape_of net depths headed) price crude_limit
 crude-tables net price program depths headed nested has heads is =
     crude-net net price program depths headed nested is (shape-nest net depths headed nested has heads).deep
 

@@ -2,7 +2,7 @@
 use Rattle.std.proofs.Common.{◌≡◌, ℕ, zero, suc, ◌+◌, ◌-◌, ◌^◌, ◌<◌, ◌≤◌, ◌==◌, List, [], ◌∷◌, ◌++◌, get_or, All, AllPairs, refl, sym, ap, ◌∙◌, subst, inl, inr, arith, append-nil}
 use Rattle.std.proofs.lemmas.Bool.{cases_eq, cond-true, cond-false, eq-eqb, ne_eqb}
 use Rattle.std.proofs.lemmas.Int.{ints}
-use Rattle.std.proofs.lemmas.List.Elements.{All-nil, All-cons, All-append, All-get_or}
+use Rattle.std.proofs.lemmas.List.Elements.{All-nil, All-cons, All-append, All-get_or, All-head, All-tail}
 use Rattle.std.proofs.lemmas.List.Quantifiers.{all_pairs_push}
 use lib.IntN.{ℤ, pos, negsuc}
 use Rattle.ipet_program.specs.Counts.{listed}
@@ -144,8 +144,8 @@ listed_behind : (xs ys : List Count) (n column : ℕ) → All (CountBelow n) xs 
     listed (xs ++ ys) column ≡ listed ys column
 listed_behind [] ys n column all less = refl
 listed_behind (x ∷ xs) ys n column all less =
-    listed_past x (xs ++ ys) column (λ e. omega (arith, e, Rattle.std.proofs.lemmas.List.Elements.All-head (CountBelow n) x xs all, less))
-    ∙ listed_behind xs ys n column (Rattle.std.proofs.lemmas.List.Elements.All-tail (CountBelow n) x xs all) less
+    listed_past x (xs ++ ys) column (λ e. omega (arith, e, All-head (CountBelow n) x xs all, less))
+    ∙ listed_behind xs ys n column (All-tail (CountBelow n) x xs all) less
 
 listed_front : (xs ys : List Count) (column : ℕ) → listed ys column ≡ 0 →
     listed (xs ++ ys) column ≡ listed xs column

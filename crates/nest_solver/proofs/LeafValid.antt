@@ -1,6 +1,6 @@
 -- What the rows of a net's program give to columns and to the right side, by the multipliers of worths and turns.
 use Rattle.std.proofs.Common.{◌≡◌, ◌⊎◌, ℕ, suc, ◌+◌, ◌*◌, ◌^◌, ◌<◌, ◌≤◌, ◌==◌, ◌&&◌, not, Bool, true, false, List, [], ◌∷◌, length, Option, Some, refl, sym, ap, ap₂, ◌∙◌, subst, inl, inr, arith, nat_abs, mul-le-mul, mul-le-mul_left, true≢false}
-use Rattle.std.proofs.lemmas.Bool.{cases_eq, cases_lt, cases_Bool}
+use Rattle.std.proofs.lemmas.Bool.{cases_eq, ne_eqb}
 use Rattle.std.proofs.lemmas.Int.{ints}
 use lib.IntN.{ℤ, pos, ◌+ℤ◌, ◌-ℤ◌, ◌*ℤ◌}
 use lib.Signed.{◌≤ℤ◌}
@@ -29,6 +29,8 @@ use Rattle.nest_solver.proofs.Rows.{row-place, row-loop, place-factor, loop-fact
 use Rattle.nest_solver.proofs.Listed.{abs-product, size, fit-size, terms-total, terms-size, weights-total, weights-size}
 use Rattle.nest_solver.proofs.LeafShown.{IsRowOf, row-of, sum-rows, mult-place, mult-loop, place_fac, loop_fac, factor_at, factor-at_place, factor-at_loop, column-total}
 use Rattle.nest_solver.proofs.LeafShown.IsRowOf.{first, place, loop}
+use Rattle.ipet_program.specs.Scopes.{bound_of}
+use Rattle.nest_solver.proofs.Weak.{given}
 
 -- ---- What a row gives to a column.
 module _ (net : Net) (depths headed : ℕ → ℕ) where
@@ -61,7 +63,7 @@ module _ (net : Net) (depths headed : ℕ → ℕ) where
       ∙ ap (λ (z : ℤ). times *ℤ z)
       (loop-factor net depths headed found.item l j found.there u
       ∙ ap (λ (b : ℕ). pos (comes s (s.header l) j) -ℤ pos (b * goes_in s l j))
-      (sym (ap Rattle.ipet_program.specs.Scopes.bound_of found.there))
+      (sym (ap bound_of found.there))
       ∙ sym (factor-at_loop s j l v))
 
   row-given : (times : ℤ) (j row : ℕ) → IsUpTo (length net.arcs) j →
@@ -93,7 +95,7 @@ module _ (net : Net) (depths headed : ℕ → ℕ) where
       ≤ nat_abs (times *ℤ z))
       (loop-factor net depths headed found.item l j found.there u
       ∙ ap (λ (b : ℕ). pos (comes s (s.header l) j) -ℤ pos (b * goes_in s l j))
-      (sym (ap Rattle.ipet_program.specs.Scopes.bound_of found.there))
+      (sym (ap bound_of found.there))
       ∙ sym (factor-at_loop s j l v))
       (terms-size times (loop_factor net.arcs (holds_of net l) found.item) (length net.arcs) j
       (loop_row_of net.arcs (holds_of net l) (Some found.item)) refl u))
@@ -115,13 +117,13 @@ module _ (net : Net) (depths headed : ℕ → ℕ) where
       ∙ ap (λ (z : ℤ). (times *ℤ z) ∷ []) (sym (other (suc p) (omega (arith, v))))
     where
       other : (row : ℕ) → 1 < row → one_if (row == 1) ≡ pos 0
-      other row less = ap one_if (Rattle.std.proofs.lemmas.Bool.ne_eqb row 1 (λ e. omega (arith, e, less)))
+      other row less = ap one_if (ne_eqb row 1 (λ e. omega (arith, e, less)))
   right-given times _ (loop l v) = let found = loop-at net l v in
       ap (right_part times) (loop-row l found.item found.there v)
       ∙ ap (λ (z : ℤ). (times *ℤ z) ∷ []) (sym (other (suc (length net.places + l)) (omega (arith, v))))
     where
       other : (row : ℕ) → 1 < row → one_if (row == 1) ≡ pos 0
-      other row less = ap one_if (Rattle.std.proofs.lemmas.Bool.ne_eqb row 1 (λ e. omega (arith, e, less)))
+      other row less = ap one_if (ne_eqb row 1 (λ e. omega (arith, e, less)))
 
   pub row-there : (row : ℕ) → IsRowOf (length net.places) (length net.loops) row → IsNumberOf rows row
   row-there _ first = item_at-within rows 1 (entry_row (length net.arcs)) refl
@@ -233,7 +235,7 @@ module _ (net : Net) (depths headed : ℕ → ℕ) where
   pub shown-column : (total : ℕ) (worth turns : ℕ → ℕ) (j : ℕ) → IsNest s → IsUpTo (length net.arcs) j →
       total_of (column_parts rows (weights total worth turns) j)
       ≡ (pos total *ℤ one_if (j == 1) +ℤ (pos (worth (s.from j)) -ℤ pos (worth (s.to j))))
-      +ℤ (pos (Rattle.nest_solver.proofs.Weak.given s turns j) -ℤ pos (paid s turns j))
+      +ℤ (pos (given s turns j) -ℤ pos (paid s turns j))
   shown-column total worth turns j nest u =
       weights-total (λ (weight : Weight). parts_in j weight.times (item_at weight.row rows))
       (multiplier s total worth turns) (factor_at s j) (s.places + 1 + s.loops)
@@ -268,7 +270,7 @@ module _ (net : Net) (depths headed : ℕ → ℕ) where
       ∙ total_to-one (λ row. multiplier s total worth turns row *ℤ one_if (row == 1)) (s.places + 1 + s.loops) 1
       (omega arith) (omega arith)
       (λ row differ. ap (λ (t : Bool). multiplier s total worth turns row *ℤ one_if t)
-      (Rattle.std.proofs.lemmas.Bool.ne_eqb row 1 differ) ∙ omega (arith, ints))
+      (ne_eqb row 1 differ) ∙ omega (arith, ints))
       ∙ omega (arith, ints)
 
   pub right-size : (total : ℕ) (worth turns : ℕ → ℕ) →
@@ -294,7 +296,7 @@ module _ (net : Net) (depths headed : ℕ → ℕ) where
             | inr differ ↦ omega (
               arith,
               ap (λ (t : Bool). nat_abs (multiplier s total worth turns row *ℤ one_if t))
-                  (Rattle.std.proofs.lemmas.Bool.ne_eqb row 1 differ),
+                  (ne_eqb row 1 differ),
               none (multiplier s total worth turns row),
             )
           ]

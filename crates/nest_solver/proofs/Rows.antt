@@ -1,6 +1,6 @@
 -- The rows of a net's program say of counts that they keep arc 1, the places and the loops.
 use Rattle.std.proofs.Common.{◌≡◌, ◌↔◌, ℕ, zero, suc, ◌+◌, ◌*◌, ◌<◌, ◌≤◌, ◌==◌, ◌&&◌, not, cond, Bool, true, false, List, [], ◌∷◌, ◌++◌, length, slice_get, All, Option, Some, refl, sym, ap, ap₂, ◌∙◌, subst, arith, true≢false}
-use Rattle.std.proofs.lemmas.Bool.{cases_eq, cases_Bool, cases_lt}
+use Rattle.std.proofs.lemmas.Bool.{ne_eqb}
 use Rattle.std.proofs.lemmas.Int.{ints}
 use Rattle.std.proofs.lemmas.List.Elements.{All-cons, All-append}
 use lib.IntN.{ℤ, pos, ◌-ℤ◌, ◌*ℤ◌}
@@ -25,7 +25,7 @@ use Rattle.ipet_program.proofs.Terms.{row_sum-terms}
 use Rattle.ipet_program.proofs.Values.{value_of-total}
 use Rattle.ipet_program.proofs.Numbered.{item_at-numbered, All-numbered, length-numbered}
 use Rattle.ipet_program.proofs.RunCounts.{value_at-arc, length-value}
-use Rattle.nest_solver.specs.Nets.{IsProgramOfNet, shape_of, holds_of, value_at_end, source_of}
+use Rattle.nest_solver.specs.Nets.{shape_of, holds_of, value_at_end, source_of, header_of}
 use Rattle.nest_solver.specs.Shape.{Shape, IsUpTo}
 use Rattle.nest_solver.specs.Counted.{bit}
 use Rattle.nest_solver.specs.Crude.{grown, IsCrude}
@@ -34,6 +34,8 @@ use Rattle.nest_solver.proofs.Products.{product-same}
 use Rattle.std.proofs.lemmas.Bool.Decides.{nat_tests}
 use Rattle.nest_solver.proofs.Counting.{Keeps, comes, goes, goes_in}
 use Rattle.nest_solver.proofs.NetShape.{arc-at, loop-at, held-told}
+use Rattle.flow_net.specs.Visits.{target_of}
+use Rattle.std.specs.Prelude.{nat_lt}
 
 -- ---- Two tests that tell one thing are one.
 told_one : {P : Type 0} (a b : Bool) → ((a ≡ true) ↔ P) → ((b ≡ true) ↔ P) → a ≡ b
@@ -123,7 +125,7 @@ module _ (net : Net) (depth headed : ℕ → ℕ) where
           place_factor net.arcs p j ≡ pos (comes s p j) -ℤ pos (goes s p j)
       by arc there =
           subst (λ (found : Option NetArc). one_if (comes_to p found) -ℤ one_if (goes_from p found)
-          ≡ pos (bit (Rattle.flow_net.specs.Visits.target_of found == p)) -ℤ pos (bit (source_of found == p)))
+          ≡ pos (bit (target_of found == p)) -ℤ pos (bit (source_of found == p)))
           (sym there)
           (ap₂ (λ (y z : ℤ). y -ℤ z) (bit-one (arc.to == p)) (bit-one (arc.from == p)))
 
@@ -133,7 +135,7 @@ module _ (net : Net) (depth headed : ℕ → ℕ) where
   loop-factor inst l j loop u = let arc = arc-at net j u in by arc.item arc.there
     where
       header : s.header l ≡ inst.header
-      header = ap Rattle.nest_solver.specs.Nets.header_of loop
+      header = ap header_of loop
 
       times : (t : Bool) → pos inst.bound *ℤ one_if t ≡ pos (inst.bound * bit t)
       times true = omega (arith, ints)
@@ -145,8 +147,8 @@ module _ (net : Net) (depth headed : ℕ → ℕ) where
       by arc there =
           subst (λ (found : Option NetArc).
           one_if (comes_to inst.header found) -ℤ pos inst.bound *ℤ one_if (enters_loop (holds_of net l) inst.header found)
-          ≡ pos (bit (Rattle.flow_net.specs.Visits.target_of found == s.header l))
-          -ℤ pos (inst.bound * bit ((Rattle.flow_net.specs.Visits.target_of found == s.header l)
+          ≡ pos (bit (target_of found == s.header l))
+          -ℤ pos (inst.bound * bit ((target_of found == s.header l)
           && not (holds_of net l (source_of found)))))
           (sym there)
           (subst (λ (h : ℕ). one_if (arc.to == inst.header)
@@ -164,7 +166,7 @@ module _ (net : Net) (depth headed : ℕ → ℕ) where
       ∙ omega (arith, ints)
     where
       other : (j : ℕ) → (j ≡ 1 → ⊥) → one_if (j == 1) ≡ pos 0
-      other j differ = ap one_if (Rattle.std.proofs.lemmas.Bool.ne_eqb j 1 differ)
+      other j differ = ap one_if (ne_eqb j 1 differ)
 
   place-sum : (x : ℕ → ℕ) (p : ℕ) → row_sum x (place_row net.arcs p).terms
       ≡ pos (sum_to (length net.arcs) (λ j. comes s p j * x j)) -ℤ pos (sum_to (length net.arcs) (λ j. goes s p j * x j))
@@ -266,7 +268,7 @@ value-table net price program depth headed j is u =
     value_at-arc net price program is j u
     ∙ (let arc = arc-at net j u in
     ap (arc_value price) arc.there
-    ∙ ap (λ (found : Option NetArc). pos (price (Rattle.flow_net.specs.Visits.target_of found))) (sym arc.there))
+    ∙ ap (λ (found : Option NetArc). pos (price (target_of found))) (sym arc.there))
 
 pub value-sum : (net : Net) (price : ℕ → ℕ) (program : Program) (depth headed : ℕ → ℕ) (x : ℕ → ℕ) →
     IsProgramOf net price program →
@@ -293,7 +295,7 @@ crude-net net price program depth headed nested is deep =
     same : crude_of net is.holds price ≡ crude_of net (holds_of net) price
     same = ap (λ (holds : ℕ → ℕ → Bool). crude_of net holds price) (holds-same net is.holds nested is.told)
 
-    factor : (h : Bool) (b d : ℕ) → 1 ≤ d → cond h b 1 ≡ cond (h && Rattle.std.specs.Prelude.nat_lt 0 d) b 1
+    factor : (h : Bool) (b d : ℕ) → 1 ≤ d → cond h b 1 ≡ cond (h && nat_lt 0 d) b 1
     factor true b d low = grind (arith, nat_tests)
     factor false b d low = refl
 
@@ -304,5 +306,5 @@ crude-net net price program depth headed nested is deep =
         (λ p u. ap (λ n. price p * n)
         (product-same (length net.loops)
         (λ l. cond (holds_of net l p) (bound_of (item_at l net.loops)) 1)
-        (λ l. cond (holds_of net l p && Rattle.std.specs.Prelude.nat_lt 0 (depth l)) (bound_of (item_at l net.loops)) 1)
+        (λ l. cond (holds_of net l p && nat_lt 0 (depth l)) (bound_of (item_at l net.loops)) 1)
         (λ l v. factor (holds_of net l p) (bound_of (item_at l net.loops)) (depth l) (deep l v))))

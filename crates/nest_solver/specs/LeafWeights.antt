@@ -28,7 +28,8 @@ pub record AreSmall (s : Shape) (total : ℕ) (worth turns : ℕ → ℕ) : Type
   pub worths : (p : ℕ) → worth p ≤ 2 ^ 120
   pub turned : (l : ℕ) → IsUpTo s.loops l → turns l * (s.bound l + 1) ≤ 2 ^ 120
 
--- The leaf has the multipliers of these worths and turns.
+-- The leaf has the multipliers of these worths and turns. (`leaf-shows` of proofs/LeafLaw.antt: it is valid, and
+-- shows the total.)
 pub record IsLeafOf (s : Shape) (total : ℕ) (worth turns : ℕ → ℕ) (leaf : Leaf) : Type 0 where
   pub denom : leaf.denom ≡ pos 1
   pub shows : leaf.empty ≡ false
