@@ -15,7 +15,7 @@ use Rattle.nest_solver.proofs.Solving.{paid-some, paid-none}
 use Rattle.nest_solver.proofs.Forward.{swept-same, swept-small}
 use Rattle.nest_solver.proofs.Worths.{base-zero, base-live, base-dead, lift-small}
 use Rattle.nest_solver.proofs.Priced.{priced, carried}
-use Rattle.nest_solver.proofs.Room.{room-level, priced_all, in_one}
+use Rattle.nest_solver.proofs.Room.{room-level, fits-end, priced_all, in_one}
 
 -- ---- Weights.
 -- Where no loop turns, an arc weighs its value.
@@ -137,7 +137,7 @@ turn-carried s price turns depth limit l nest crude solved u deep =
       sum-part s.loops l (λ k. bit ((s.header k == s.header l) && nat_lt depth (s.depth k)) * carried s turns k) u,
       ap (λ b. b * carried s turns l) (here (s.header l) (s.depth l) deep),
       in_one s (λ p. true) (priced s price turns depth) (s.header l) (nest.headers l u) refl,
-      priced_all s price turns limit depth nest crude solved,
+      priced_all s (value_at_end s price) price turns limit depth nest (fits-end s price) crude solved,
     )
   where
     here : (h deeper : ℕ) → depth < deeper → bit ((h == h) && nat_lt depth deeper) ≡ 1
