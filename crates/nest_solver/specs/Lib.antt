@@ -5,3 +5,6 @@ pub mod Ways
 pub mod Solved
 pub mod Counted
 pub mod LeafWeights
+pub mod Groups
+pub mod Depths
+pub mod Tables

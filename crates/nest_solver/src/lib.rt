@@ -1,2 +1,7 @@
 //! The greatest value of the program of a nested net, and the counts and the multipliers that show it.
 #![tactic(auto)]
+
+mod depths;
+mod groups;
+mod headers;
+mod reads;
