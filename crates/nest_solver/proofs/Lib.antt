@@ -4,3 +4,7 @@ pub mod Arcs
 pub mod Puts
 pub mod Grouping
 pub mod Deeps
+pub mod Solving
+pub mod Forward
+pub mod Worths
+pub mod Lifting
