@@ -8,3 +8,6 @@ pub mod Solving
 pub mod Forward
 pub mod Worths
 pub mod Lifting
+pub mod Heading
+pub mod Pushes
+pub mod Upward

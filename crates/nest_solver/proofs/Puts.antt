@@ -1,5 +1,6 @@
 -- A table with one entry changed.
-use Rattle.std.proofs.Common.{◌≡◌, ℕ, ◌<◌, List, length, get_or, set, get_or-set_other, get_or-set_same}
+use Rattle.std.proofs.Common.{◌≡◌, ◌∙◌, ℕ, ◌<◌, List, length, get_or, set, get_or-set_other, get_or-set_same}
+use Rattle.std.proofs.lemmas.Grind.{get_or_default_zero}
 use Rattle.nest_solver.specs.Nets.{entry}
 
 pub record Puts (before after : ℕ → ℕ) (at value : ℕ) : Type 0 where
@@ -12,3 +13,8 @@ puts-set table at value low = record {
   here = rw get_or-set_same;
   others = λ i differ. rw get_or-set_other;
 }
+
+-- What an index reads is the entry.
+pub entry-read : (table : List ℕ) (at value : ℕ) → at < length table → value ≡ get_or table at value →
+    value ≡ entry table at
+entry-read table at value low e = e ∙ get_or_default_zero table at value low

@@ -8,3 +8,4 @@ pub mod LeafWeights
 pub mod Groups
 pub mod Depths
 pub mod Tables
+pub mod Up

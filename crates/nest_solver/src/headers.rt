@@ -4,7 +4,7 @@ ghost use Rattle.std.specs.Prelude.{◌≡◌, ℕ, ◌+◌, ◌<◌, ◌≤◌,
 ghost use Rattle.flow_net.specs.Nested.{IsNested};
 ghost use Rattle.nest_solver.specs.Nets.{HasHeaders, entry};
 ghost use Rattle.nest_solver.specs.Shape.{IsUpTo};
-ghost use Rattle.nest_solver.specs.Tables.{AreBacks, goes_back};
+ghost use Rattle.nest_solver.specs.Tables.{AreBacks, IsFew, goes_back};
 
 use crate::reads::{header, source, target};
 use flow_net::Net;
@@ -39,11 +39,18 @@ fn returns(net: &Net, headed: &[usize], arc: usize) -> bool
     requires headed { HasHeaders net.now (entry headed.now) }
     requires room { length headed.now ≡ length net.now.places + 1 }
     requires arc { IsUpTo (length net.now.arcs) arc }
+    requires few { IsFew net.now }
     ensures back { result ≡ goes_back net.now (entry headed.now) arc }
 {
     let scope = headed[target(net, arc)];
+    if scope == 0 {
+        return false;
+    }
     let from = source(net, arc);
-    scope != 0 && from != 0 && net.held(from as u32, scope as u32)
+    if from == 0 {
+        return false;
+    }
+    net.held(from as u32, scope as u32)
 }
 
 /// Which arcs go back.
@@ -51,6 +58,7 @@ pub fn backs_of(alloc: Global, net: &Net, headed: &[usize]) -> Result<Vec<bool>,
     requires nested { IsNested net.now }
     requires headed { HasHeaders net.now (entry headed.now) }
     requires room { length headed.now ≡ length net.now.places + 1 }
+    requires few { IsFew net.now }
     ensures backs { IfOk result (λ backs. AreBacks net.now (entry headed.now) backs.items) }
 {
     let mut backs = Vec::new(alloc);

@@ -5,3 +5,5 @@ mod depths;
 mod groups;
 mod headers;
 mod reads;
+mod scopes;
+mod up;
