@@ -11,3 +11,7 @@ pub mod Lifting
 pub mod Heading
 pub mod Pushes
 pub mod Upward
+pub mod Times
+pub mod Along
+pub mod Counting
+pub mod PutBack
