@@ -15,3 +15,8 @@ pub mod Times
 pub mod Along
 pub mod Counting
 pub mod PutBack
+pub mod Queues
+pub mod Opening
+pub mod Ordering
+pub mod Opens
+pub mod Sources

@@ -9,3 +9,4 @@ pub mod Groups
 pub mod Depths
 pub mod Tables
 pub mod Up
+pub mod Orders

@@ -1,9 +1,11 @@
 //! The greatest value of the program of a nested net, and the counts and the multipliers that show it.
 #![tactic(auto)]
 
+mod arrivals;
 mod depths;
 mod groups;
 mod headers;
+mod order;
 mod reads;
 mod scopes;
 mod up;
