@@ -127,3 +127,15 @@ opening-order a places done order place left acyclic was all =
     queue-order a places order place left (a.count + 1) (places + 1) 0 acyclic
     (subst (λ (k : ℕ). IsQueue a order place left k) (omega (arith, all, was.queue.taken)) was.queue)
     was.arcs (omega arith) (omega arith)
+
+-- The arc that an index reads from the queue is an arc.
+pub opening-arc : (a : Arcs) (order : List ℕ) (place left : ℕ → ℕ) (done first low n : ℕ) →
+    IsOpening a order place left done first low 0 0 → done < length order → n ≡ entry order done → IsUpTo a.count n
+opening-arc a order place left done first low n was more e =
+    subst (λ (k : ℕ). IsUpTo a.count k) (sym e) (was.queue.up done more)
+
+pub opening-left : (a : Arcs) (order : List ℕ) (place left : ℕ → ℕ) (done first low n : ℕ) →
+    IsOpening a order place left done first low 0 0 → done < length order → n ≡ entry order done → 0 < a.from n →
+    0 < left (a.from n)
+opening-left a order place left done first low n was more e some =
+    left-some a order place left done n was.queue more (sym e) some

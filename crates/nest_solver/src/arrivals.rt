@@ -1,11 +1,12 @@
 //! The arcs of a net by where they go to, and how many come from each place.
 
-ghost use Rattle.std.specs.Prelude.{◌≡◌, ℕ, ◌+◌, ◌-◌, ◌<◌, ◌≤◌, ◌==◌, IfOk, length};
+ghost use Rattle.std.specs.Prelude.{◌≡◌, ℕ, ◌+◌, ◌-◌, ◌<◌, ◌≤◌, ◌==◌, IfOk, OnOk, length};
 ghost use Rattle.flow_net.specs.Numbers.{item_at};
 ghost use Rattle.flow_net.specs.Visits.{target_of};
 ghost use Rattle.flow_net.specs.Nested.{IsNested};
 ghost use Rattle.ipet_program.specs.Sums.{sum_to};
 ghost use Rattle.nest_solver.specs.Counted.{bit};
+ghost use Rattle.nest_solver.specs.Groups.{AreGrouped};
 ghost use Rattle.nest_solver.specs.Nets.{entry, source_of};
 ghost use Rattle.nest_solver.specs.Orders.{AreArrivals, AreLeft};
 ghost use Rattle.nest_solver.specs.Shape.{IsUpTo};
@@ -39,16 +40,33 @@ fn targets_of(alloc: Global, net: &Net) -> Result<Vec<usize>, AllocError>
     Ok(targets)
 }
 
+/// Puts the arcs into chains by where they go to, in empty tables.
+fn group_targets(
+    alloc: Global,
+    net: &Net,
+    heads: &mut [usize],
+    next: &mut [usize],
+) -> Result<(), AllocError>
+    requires nested { IsNested net.now }
+    requires heads { length heads.old ≡ length net.now.places + 1 }
+    requires next { length next.old ≡ length net.now.arcs + 1 }
+    requires fresh { (p : ℕ) → entry heads.old p ≡ 0 }
+    ensures chains { OnOk result (AreGrouped (λ (i : ℕ). target_of (item_at i net.now.arcs)) (length net.now.arcs + 1)
+        (entry heads.new) (entry next.new)) }
+{
+    let targets = targets_of(alloc, net)?;
+    group(&targets, heads, next);
+    Ok(())
+}
+
 /// The arcs of a net by where they go to.
 pub fn arrivals_of(alloc: Global, net: &Net) -> Result<Arrivals, AllocError>
     requires nested { IsNested net.now }
-    requires few { IsFew net.now }
     ensures arrivals { IfOk result (λ arrivals. AreArrivals net.now arrivals) }
 {
-    let targets = targets_of(alloc, net)?;
     let mut heads = vec![in alloc; 0; net.places.as_slice().len() + 1]?;
     let mut next = vec![in alloc; 0; net.arcs.as_slice().len() + 1]?;
-    group(&targets, &mut heads, &mut next);
+    group_targets(alloc, net, &mut heads, &mut next)?;
     Ok(Arrivals { heads, next })
 }
 
