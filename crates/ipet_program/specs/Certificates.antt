@@ -53,7 +53,9 @@ AreValid program bound (cuts ∷ others) (Split column at ∷ more) =
 AreValid program bound (cuts ∷ others) (End leaf ∷ more) =
     IsLeaf program cuts bound leaf × AreValid program bound others more
 
--- The certificate is valid: its counts are feasible and have the value reached, and its tree shows the bound.
+-- The certificate is valid: its counts are feasible and have the value reached, and its tree shows the bound:
+-- no feasible counts have a value above it, so what is reached is at most the bound (`certificate-bound` and
+-- `certificate-reached` of proofs/CertificateLaw.antt).
 pub record IsValid (program : Program) (certificate : Certificate) : Type 0 where
   pub named : NamesColumns program certificate.counts
   pub feasible : IsFeasible program (listed certificate.counts)

@@ -1,5 +1,9 @@
 -- Which counts a program allows, and their value.
-use Rattle.std.specs.Prelude.{◌≡◌, ℕ, suc, ◌<◌, ◌≤◌, ◌==◌, Bool, true, false, ℤ, pos, ◌+ℤ◌, ◌*ℤ◌, ◌≤ℤ◌, List, [], ◌∷◌, All, if◌then◌else◌}
+use Rattle.std.specs.Prelude.{◌≡◌, ℕ, suc, ◌<◌, ◌≤◌, ◌==◌, Bool, true, false, ℤ, pos, ◌+ℤ◌, ◌*ℤ◌, ◌≤ℤ◌, List, [], ◌∷◌, All, Option, Some, None, sum_by, count_by, if◌then◌else◌}
+use Rattle.flow_net.specs.Numbers.{item_at}
+use Rattle.flow_net.specs.declared.net.NetArc.{NetArc}
+use Rattle.net_model.specs.Moments.{arcs_of, Moment}
+use Rattle.net_model.specs.Moments.Moment.{Takes}
 use Rattle.ipet_program.specs.declared.certificate.Count.{Count}
 use Rattle.ipet_program.specs.declared.program.Program.{Program}
 use Rattle.ipet_program.specs.declared.program.Row.{Row}
@@ -43,3 +47,25 @@ listed (count ∷ more) column = if count.column == column then count.number els
 -- The listed counts name columns of the program.
 abbrev pub NamesColumns : Program → List Count → Type 0
 NamesColumns program counts = All (λ count. (1 ≤ count.column) × (count.column ≤ program.columns)) counts
+
+-- An arc costs what the place costs that it goes to.
+abbrev pub arc_cost : (ℕ → ℕ) → Option NetArc → ℕ
+arc_cost price None = 0
+arc_cost price (Some arc) = price arc.to
+
+-- The cost of a path: that of its arcs together.
+abbrev pub path_cost : (ℕ → ℕ) → List NetArc → List ℕ → ℕ
+path_cost price arcs numbers = sum_by (λ number. arc_cost price (item_at number arcs)) numbers
+
+-- The cycles of a run that does these things, in order.
+abbrev pub cycles_along : (ℕ → ℕ) → List NetArc → List Moment → ℕ
+cycles_along price arcs moments = path_cost price arcs (arcs_of moments)
+
+-- Whether what the run does counts for a column: it takes the arc of that number.
+abbrev pub counts_for : ℕ → Moment → Bool
+counts_for column (Takes arc) = arc == column
+
+-- The counts of a run: for each column, how often it counts. They are feasible for the program of the net, and
+-- their value is the run's cycles (`run-counts` of proofs/RunCounts.antt).
+abbrev pub counts_of : List Moment → ℕ → ℕ
+counts_of moments column = count_by (counts_for column) moments

@@ -94,7 +94,8 @@ FitsBound false program bound leaf = FitsValues program bound leaf
 FitsBound true program bound leaf = Unit {0}
 
 -- The leaf is valid under the cuts above it. (Its type keeps that it has the denominator 1 where it shows that
--- there are no counts.)
+-- there are no counts.) Then counts that are feasible and meet the cuts have a value of at most the bound, and
+-- there are none where the leaf shows that (`leaf-bound` of proofs/LeafLaw.antt).
 pub record IsLeaf (program : Program) (cuts : List Side2) (bound : ℕ) (leaf : Leaf) : Type 0 where
   pub rows : All (λ weight. IsNumberOf (all_rows program cuts) weight.row) leaf.weights
   pub signs : All (λ weight. IsSigned weight.times (item_at weight.row (all_rows program cuts))) leaf.weights

@@ -5,7 +5,7 @@ use Rattle.std.proofs.lemmas.Bool.Decides.{nat_tests}
 use Rattle.nest_solver.specs.Shape.{Shape, IsNest, IsUpTo, target, is_back, is_entering}
 use Rattle.nest_solver.specs.Ways.{IsRound, closes, goes_on}
 
-back_by : (t : ℕ) (h : Bool) → (not (t == 0) && h) ≡ true → (0 < t) × (h ≡ true)
+pub back_by : (t : ℕ) (h : Bool) → (not (t == 0) && h) ≡ true → (0 < t) × (h ≡ true)
 back_by t true e = (grind (arith, nat_tests), refl)
 back_by t false e = grind (arith, nat_tests)
 
@@ -13,7 +13,7 @@ entering_by : (t : ℕ) (h : Bool) → (not (t == 0) && not h) ≡ true → (0 <
 entering_by t true e = grind (arith, nat_tests)
 entering_by t false e = (grind (arith, nat_tests), refl)
 
-back_from : (t : ℕ) (h : Bool) → 0 < t → h ≡ true → (not (t == 0) && h) ≡ true
+pub back_from : (t : ℕ) (h : Bool) → 0 < t → h ≡ true → (not (t == 0) && h) ≡ true
 back_from t h low e = grind (arith, nat_tests)
 
 entering_from : (t : ℕ) (h : Bool) → 0 < t → h ≡ false → (not (t == 0) && not h) ≡ true

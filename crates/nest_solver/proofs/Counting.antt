@@ -34,7 +34,7 @@ pub record Keeps (s : Shape) (counts : ℕ → ℕ) : Type 0 where
       ≤ s.bound l * sum_to s.arcs (λ i. goes_in s l i * counts i)
 
 -- An arc to a loop's header enters the loop or goes back.
-and_true : (a : Bool) (t l : ℕ) → a ≡ true → t ≡ l → bit (a && (t == l)) ≡ 1
+pub and_true : (a : Bool) (t l : ℕ) → a ≡ true → t ≡ l → bit (a && (t == l)) ≡ 1
 and_true a t l e f = grind (arith, nat_tests)
 
 in_by : (to header : ℕ) (h : Bool) → to ≡ header → h ≡ false → bit ((to == header) && not h) ≡ 1
@@ -55,7 +55,7 @@ target_not s nest l i u n e =
     let heads = nest.heads (s.to i) (omega (arith, e, u)) in
     n (sym heads.1 ∙ ap s.header e)
 
-returns_other : (s : Shape) (l i : ℕ) → (target s i ≡ l → ⊥) → bit (returns s l i) ≡ 0
+pub returns_other : (s : Shape) (l i : ℕ) → (target s i ≡ l → ⊥) → bit (returns s l i) ≡ 0
 returns_other s l i n = by (is_back s i) (target s i) n
   where
     by : (a : Bool) (t : ℕ) → (t ≡ l → ⊥) → bit (a && (t == l)) ≡ 0
@@ -336,7 +336,7 @@ paid-counts s turns counts nest =
     turn : (x m b : ℕ) → x * (m * b) ≡ m * (b * x)
     turn x m b = omega arith
 
-weight-counts : (s : Shape) (value turns counts : ℕ → ℕ) → IsNest s →
+pub weight-counts : (s : Shape) (value turns counts : ℕ → ℕ) → IsNest s →
     sum_to s.arcs (λ i. weight_of s value turns i * counts i)
     ≡ sum_to s.arcs (λ i. value i * counts i)
         + sum_to s.loops (λ l. ((s.bound l - 1) * turns l) * entered s counts l)

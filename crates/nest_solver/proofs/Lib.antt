@@ -20,3 +20,13 @@ pub mod Opening
 pub mod Ordering
 pub mod Opens
 pub mod Sources
+pub mod Held
+pub mod NetShape
+pub mod Few
+pub mod Products
+pub mod Priced
+pub mod Room
+pub mod CountRoom
+pub mod Weak
+pub mod Rows
+pub mod Greatest

@@ -27,12 +27,12 @@ base-zero s step rank best = refl
 pub base-live : (s : Shape) (step : ℕ) (rank best : ℕ → ℕ) (p : ℕ) → 0 < p → 0 < best p →
     base_worth s step rank best p ≡ base_shift s step + best p
 base-live s step rank best p low some =
-    base_live p (base_shift s step + 1) (base_shift s step + best p) (step * (s.places - rank p)) (best p) low some
+    base_live p (base_shift s step + 1) (base_shift s step + best p) (step * (s.arcs - rank p)) (best p) low some
 
 pub base-dead : (s : Shape) (step : ℕ) (rank best : ℕ → ℕ) (p : ℕ) → 0 < p → best p ≡ 0 →
-    base_worth s step rank best p ≡ step * (s.places - rank p)
+    base_worth s step rank best p ≡ step * (s.arcs - rank p)
 base-dead s step rank best p low none =
-    base_dead p (base_shift s step + 1) (base_shift s step + best p) (step * (s.places - rank p)) (best p) low none
+    base_dead p (base_shift s step + 1) (base_shift s step + best p) (step * (s.arcs - rank p)) (best p) low none
 
 -- Behind an arc to a place with a way out, or to 0, the worth falls by the arc's weight.
 live_step : (s : Shape) → IsNest s → (step : ℕ) (rank round weight best choice turns : ℕ → ℕ) →
@@ -53,7 +53,7 @@ dead_product step places a b w less high small =
     )
 
 dead_step : (s : Shape) (step : ℕ) (rank weight best : ℕ → ℕ) → IsRising s rank →
-    ((p : ℕ) → rank p ≤ s.places) → ((i : ℕ) → IsUpTo s.arcs i → weight i ≤ step) →
+    ((p : ℕ) → rank p ≤ s.arcs) → ((i : ℕ) → IsUpTo s.arcs i → weight i ≤ step) →
     (i : ℕ) → IsUpTo s.arcs i → 0 < s.from i → 0 < s.to i → is_back s i ≡ false → best (s.to i) ≡ 0 →
     weight i + base_worth s step rank best (s.to i) ≤ base_worth s step rank best (s.from i)
 dead_step s step rank weight best rises high small i u low to_low forward none =
@@ -66,18 +66,18 @@ dead_step s step rank weight best rises high small i u low to_low forward none =
         end,
         base-live s step rank best (s.from i) low some,
         small i u,
-        mul-le-mul_left step (let e : (s.places - rank (s.to i)) + 1 ≤ s.places + 1 = omega arith in e),
+        mul-le-mul_left step (let e : (s.arcs - rank (s.to i)) + 1 ≤ s.arcs + 1 = omega arith in e),
       )
       | inr dead ↦ omega (
         arith,
         end,
         base-dead s step rank best (s.from i) low (omega (arith, dead)),
-        dead_product step s.places (rank (s.from i)) (rank (s.to i)) (weight i) less (high (s.to i)) (small i u),
+        dead_product step s.arcs (rank (s.from i)) (rank (s.to i)) (weight i) less (high (s.to i)) (small i u),
       )
     ]
 
 pub base-dual : (s : Shape) (step : ℕ) (rank round weight best choice turns : ℕ → ℕ) → IsNest s →
-    IsRising s rank → ((p : ℕ) → rank p ≤ s.places) → ((i : ℕ) → IsUpTo s.arcs i → weight i ≤ step) →
+    IsRising s rank → ((p : ℕ) → rank p ≤ s.arcs) → ((i : ℕ) → IsUpTo s.arcs i → weight i ≤ step) →
     IsSwept s 0 round weight best choice → IsDual s weight turns 0 (base_worth s step rank best)
 base-dual s step rank round weight best choice turns nest rises high small swept =
     record {

@@ -3,6 +3,7 @@ pub mod Shape
 pub mod Nets
 pub mod Ways
 pub mod Solved
+pub mod Crude
 pub mod Counted
 pub mod LeafWeights
 pub mod Groups

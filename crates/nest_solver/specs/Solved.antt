@@ -43,12 +43,12 @@ pub record IsDual (s : Shape) (weight turns : ℕ → ℕ) (depth : ℕ) (worth 
 -- Worths before any back arc is looked at. Place 0 is worth `shift` + 1; a place with a way out as much
 -- more as the longest one weighs; the others less, by falling numbers, a step apart.
 abbrev pub base_shift : Shape → (step : ℕ) → ℕ
-base_shift s step = step * (s.places + 1)
+base_shift s step = step * (s.arcs + 1)
 
 abbrev pub base_worth : Shape → (step : ℕ) → (rank best : ℕ → ℕ) → ℕ → ℕ
 base_worth s step rank best p =
     if p == 0 then base_shift s step + 1
-    else (if nat_lt 0 (best p) then base_shift s step + best p else step * (s.places - rank p))
+    else (if nat_lt 0 (best p) then base_shift s step + best p else step * (s.arcs - rank p))
 
 -- Worths raised by the loops of one depth: a place with a way back to its loop's header is worth at
 -- least that way and the header, less the loop's turn.

@@ -20,7 +20,8 @@ use Rattle.mips_machine.proofs.CodeLemmas.{code_at-regions_of, code_at-start}
 use Rattle.mips_machine.proofs.RunLemmas.{RunsAs, runs_as}
 use Rattle.net_model.specs.Reached.{IsReached, first}
 use Rattle.net_model.specs.Net.{IsPlaceAt}
-use Rattle.wcet_engine.specs.Costliest.{IsCostliest, arc_cost, path_cost, place_price}
+use Rattle.ipet_program.specs.Counts.{arc_cost, path_cost}
+use Rattle.wcet_engine.specs.Costliest.{IsCostliest, place_price}
 use Rattle.wcet_engine.specs.Sentence.{Bounds}
 use Rattle.wcet_engine.proofs.RunPaths.{IsFollowed, RunPath, run-path}
 

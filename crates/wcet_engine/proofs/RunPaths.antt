@@ -29,7 +29,8 @@ use Rattle.net_model.proofs.Contents.{IsFetched-unit}
 use Rattle.net_model.proofs.Zero.{IsZero}
 use Rattle.net_model.proofs.Steps.{IsDoneBy, IsWayOn, UnitGoes, unit-goes}
 use Rattle.ipet_program.specs.Costs.{content_cost, unit_cost}
-use Rattle.wcet_engine.specs.Costliest.{arc_cost, path_cost, place_price, price_at}
+use Rattle.ipet_program.specs.Counts.{arc_cost, path_cost}
+use Rattle.wcet_engine.specs.Costliest.{place_price, price_at}
 use Rattle.wcet_engine.specs.Unbuilt.{IsLeft}
 use Rattle.wcet_engine.proofs.UnitCosts.{step_cost-unit, transfer-alone}
 

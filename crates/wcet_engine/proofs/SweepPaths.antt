@@ -5,7 +5,8 @@ use Rattle.std.specs.Prelude.{IfSome, option_map}
 use Rattle.flow_net.specs.Numbers.{item_at}
 use Rattle.flow_net.specs.Paths.{IsPath, IsRunPath}
 use Rattle.flow_net.specs.declared.net.NetArc.{NetArc}
-use Rattle.wcet_engine.specs.Costliest.{IsCostliest, path_cost}
+use Rattle.ipet_program.specs.Counts.{path_cost}
+use Rattle.wcet_engine.specs.Costliest.{IsCostliest}
 use Rattle.wcet_engine.specs.declared.sweep.Ranked.{Ranked}
 use Rattle.ipet_program.specs.Costs.{price_limit}
 use Rattle.wcet_engine.specs.Sweeps.{AreBest, AreOrdered, HasPath, IsAtMost, best_at, listed_rank, onward_cost}

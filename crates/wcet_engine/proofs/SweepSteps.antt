@@ -7,7 +7,8 @@ use Rattle.std.proofs.lemmas.Option.{slice_get-get_or, slice_get_within, unwrap_
 use Rattle.std.specs.Prelude.{option_map, unwrap_or}
 use Rattle.flow_net.specs.Numbers.{item_at}
 use Rattle.flow_net.specs.declared.net.NetArc.{NetArc}
-use Rattle.wcet_engine.specs.Costliest.{arc_cost, listed_price, path_cost, price_or_zero}
+use Rattle.ipet_program.specs.Counts.{arc_cost, path_cost}
+use Rattle.wcet_engine.specs.Costliest.{listed_price, price_or_zero}
 use Rattle.wcet_engine.specs.declared.sweep.Ranked.{Ranked}
 use Rattle.ipet_program.specs.Costs.{price_limit}
 use Rattle.wcet_engine.specs.Sweeps.{AreEnds, AreOrdered, ArePrices, HasPath, IsAtMost, IsFalling, IsGreater, IsStepOf, best_at, listed_rank, onward_cost}

@@ -1,5 +1,5 @@
 -- The costliest path of a net.
-use Rattle.std.specs.Prelude.{◌≡◌, ℕ, ◌≤◌, List, sum_by, Option, Some, None}
+use Rattle.std.specs.Prelude.{◌≡◌, ℕ, ◌≤◌, List, Option, Some, None}
 use Rattle.elf_mips.specs.declared.image.Image.{Image}
 use Rattle.flow_net.specs.Numbers.{item_at}
 use Rattle.flow_net.specs.Paths.{IsRunPath}
@@ -9,15 +9,7 @@ use Rattle.flow_net.specs.declared.net.Place.{Place}
 use Rattle.cache_config.specs.Instructions.{Costs}
 use Rattle.net_model.specs.Units.{content_at}
 use Rattle.ipet_program.specs.Costs.{content_cost}
-
--- An arc costs what the place costs that it goes to.
-abbrev pub arc_cost : (ℕ → ℕ) → Option NetArc → ℕ
-arc_cost price None = 0
-arc_cost price (Some arc) = price arc.to
-
--- The cost of a path: that of its arcs together.
-abbrev pub path_cost : (ℕ → ℕ) → List NetArc → List ℕ → ℕ
-path_cost price arcs numbers = sum_by (λ number. arc_cost price (item_at number arcs)) numbers
+use Rattle.ipet_program.specs.Counts.{path_cost}
 
 -- The greatest cost of a path from arc 1 to an arc to 0, where each place has a price: a path has it,
 -- and none costs more.

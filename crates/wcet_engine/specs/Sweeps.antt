@@ -6,7 +6,8 @@ use Rattle.flow_net.specs.Numbers.{item_at}
 use Rattle.flow_net.specs.Paths.{IsPath}
 use Rattle.flow_net.specs.declared.net.NetArc.{NetArc}
 use Rattle.ipet_program.specs.Costs.{price_limit}
-use Rattle.wcet_engine.specs.Costliest.{path_cost, price_or_zero}
+use Rattle.ipet_program.specs.Counts.{path_cost}
+use Rattle.wcet_engine.specs.Costliest.{price_or_zero}
 use Rattle.wcet_engine.specs.declared.sweep.Ranked.{Ranked}
 
 abbrev pub ArePrices : List ℕ → Type 0
