@@ -30,3 +30,4 @@ pub mod CountRoom
 pub mod Weak
 pub mod Rows
 pub mod Greatest
+pub mod Plains

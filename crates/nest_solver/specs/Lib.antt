@@ -11,3 +11,5 @@ pub mod Depths
 pub mod Tables
 pub mod Up
 pub mod Orders
+pub mod Plain
+pub mod Sweeps

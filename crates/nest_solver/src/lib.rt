@@ -8,4 +8,6 @@ mod headers;
 mod order;
 mod reads;
 mod scopes;
+mod sweep;
+mod tables;
 mod up;

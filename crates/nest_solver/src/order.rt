@@ -13,6 +13,13 @@ use crate::reads::source;
 use flow_net::Net;
 use std::alloc::{AllocError, Global};
 
+/// All arcs in an order, and the position of each one in it, counted from 1.
+#[derive(Drop)]
+pub struct Order {
+    pub arcs: Vec<usize>,
+    pub positions: Vec<usize>,
+}
+
 /// Puts an arc at the end of the queue.
 fn put(arc: usize, order: &mut Vec<usize>, place: &mut [usize]) -> Result<(), AllocError>
     requires { arc < length place.old }
@@ -254,15 +261,15 @@ fn fill(
 }
 
 /// The arcs in an order in which each one stands behind all arcs from where it goes to, back arcs apart.
-pub fn order_of(alloc: Global, net: &Net, backs: &[bool]) -> Result<Vec<usize>, AllocError>
+pub fn order_of(alloc: Global, net: &Net, backs: &[bool]) -> Result<Order, AllocError>
     requires nested { IsNested net.now }
     requires few { IsFew net.now }
     requires backs { length backs.now ≡ length net.now.arcs + 1 }
     requires acyclic { AreAcyclic (arcs_of net.now backs.now) (length net.now.places) }
-    ensures order { IfOk result (λ order. (place : ℕ → ℕ) × IsOrder (arcs_of net.now backs.now) order.items place) }
+    ensures order { IfOk result (λ order. IsOrder (arcs_of net.now backs.now) order.arcs.items (entry order.positions.items)) }
 {
-    let mut order = Vec::new(alloc);
-    let mut place = vec![in alloc; 0; net.arcs.as_slice().len() + 1]?;
-    fill(alloc, net, backs, &mut order, &mut place)?;
-    Ok(order)
+    let mut arcs = Vec::new(alloc);
+    let mut positions = vec![in alloc; 0; net.arcs.as_slice().len() + 1]?;
+    fill(alloc, net, backs, &mut arcs, &mut positions)?;
+    Ok(Order { arcs, positions })
 }
