@@ -31,3 +31,4 @@ pub mod Weak
 pub mod Rows
 pub mod Greatest
 pub mod Plains
+pub mod Sweeping

@@ -13,3 +13,4 @@ pub mod Up
 pub mod Orders
 pub mod Plain
 pub mod Sweeps
+pub mod Levels

@@ -10,4 +10,5 @@ mod reads;
 mod scopes;
 mod sweep;
 mod tables;
+mod turns;
 mod up;

@@ -4,7 +4,7 @@
 ghost use Rattle.std.specs.Prelude.{◌≡◌, ℕ, ◌+◌, ◌<◌, ◌≤◌, length};
 ghost use Rattle.flow_net.specs.Nested.{IsNested};
 ghost use Rattle.ipet_program.specs.Programs.{crude_limit};
-ghost use Rattle.nest_solver.specs.Nets.{AreUp, entry, round_by};
+ghost use Rattle.nest_solver.specs.Nets.{entry, round_by};
 ghost use Rattle.nest_solver.specs.Plain.{AreTables, plain};
 ghost use Rattle.nest_solver.specs.Shape.{IsUpTo};
 ghost use Rattle.nest_solver.specs.Sweeps.{IsSoFar};
@@ -102,4 +102,81 @@ fn behind(
         return 0;
     }
     best[target(net, arc)]
+}
+
+/// Looks at an arc: where a longer way begins with it, it is chosen.
+fn look_at(
+    net: &Net,
+    tables: &Tables,
+    depth: usize,
+    up: &[usize],
+    weights: &[u64],
+    at: usize,
+    best: &mut [u64],
+    choice: &mut [usize],
+)
+    requires nested { IsNested net.now }
+    requires few { IsFew net.now }
+    requires tables { AreTables net.now tables.now }
+    requires at { at < length tables.now.order.arcs.items }
+    requires room { length up.now ≡ length net.now.loops + 1 }
+    requires run { entry up.now 0 ≡ 0 }
+    requires weights { length weights.now ≡ length net.now.arcs + 1 }
+    requires best { length best.old ≡ length net.now.places + 1 }
+    requires choice { length choice.old ≡ length net.now.places + 1 }
+    requires far { IsSoFar (plain net.now tables.now) depth (round_by net.now (entry up.now)) (entry weights.now)
+        (entry best.old) (entry choice.old) (entry tables.now.order.positions.items) crude_limit at }
+    ensures far { IsSoFar (plain net.now tables.now) depth (round_by net.now (entry up.now)) (entry weights.now)
+        (entry best.new) (entry choice.new) (entry tables.now.order.positions.items) crude_limit (at + 1) }
+{
+    let arc = tables.order.arcs[at];
+    let rest = behind(net, tables, depth, up, best, arc);
+    if rest == 0 {
+        return;
+    }
+    let way = weights[arc] + rest;
+    let from = source(net, arc);
+    if way <= best[from] {
+        return;
+    }
+    best[from] = way;
+    choice[from] = arc;
+}
+
+/// Forgets all ways.
+fn clear(best: &mut [u64])
+    ensures { (p : ℕ) → entry best.new p ≡ 0 }
+{
+    for way in best.iter_mut() {
+        *way = 0;
+    }
+}
+
+/// Finds the longest ways of a depth, in a step for each arc.
+pub fn sweep(
+    net: &Net,
+    tables: &Tables,
+    depth: usize,
+    up: &[usize],
+    weights: &[u64],
+    best: &mut [u64],
+    choice: &mut [usize],
+)
+    requires nested { IsNested net.now }
+    requires few { IsFew net.now }
+    requires tables { AreTables net.now tables.now }
+    requires room { length up.now ≡ length net.now.loops + 1 }
+    requires run { entry up.now 0 ≡ 0 }
+    requires weights { length weights.now ≡ length net.now.arcs + 1 }
+    requires best { length best.old ≡ length net.now.places + 1 }
+    requires choice { length choice.old ≡ length net.now.places + 1 }
+    requires fits { HasRoom (plain net.now tables.now) depth (round_by net.now (entry up.now)) (entry weights.now) crude_limit }
+    ensures swept { IsSwept (plain net.now tables.now) depth (round_by net.now (entry up.now)) (entry weights.now)
+        (entry best.new) (entry choice.new) }
+    ensures small { (p : ℕ) → entry best.new p ≤ crude_limit + 1 }
+{
+    clear(best);
+    for at in 0..tables.order.arcs.len() {
+        look_at(net, tables, depth, up, weights, at, best, choice);
+    }
 }
