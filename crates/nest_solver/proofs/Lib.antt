@@ -32,3 +32,5 @@ pub mod Rows
 pub mod Greatest
 pub mod Plains
 pub mod Sweeping
+pub mod Levels
+pub mod Entering

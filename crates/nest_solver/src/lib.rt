@@ -8,6 +8,7 @@ mod headers;
 mod order;
 mod reads;
 mod scopes;
+mod solve;
 mod sweep;
 mod tables;
 mod turns;

@@ -25,6 +25,7 @@ fn turn_of(
     scope: usize,
 ) -> u64
     requires nested { IsNested net.now }
+    requires few { IsFew net.now }
     requires tables { AreTables net.now tables.now }
     requires scope { IsUpTo (length net.now.loops) scope }
     requires best { length best.now ≡ length net.now.places + 1 }
@@ -40,6 +41,7 @@ fn turn_of(
 /// Notes the turns of the loop instances of a depth.
 pub fn note_turns(net: &Net, tables: &Tables, depth: usize, best: &[u64], turns: &mut [u64])
     requires nested { IsNested net.now }
+    requires few { IsFew net.now }
     requires tables { AreTables net.now tables.now }
     requires best { length best.now ≡ length net.now.places + 1 }
     requires turns { length turns.old ≡ length net.now.loops + 1 }
