@@ -299,7 +299,7 @@ counted-keeps s weight turns depth total path ways counts nest is are counted =
 
 -- The value of counts: the weights of the ways, as often as they are taken, make up for what the weights of
 -- entering arcs carry.
-paid-sum : (s : Shape) (turns : ℕ → ℕ) (i : ℕ) → IsNest s →
+pub paid-sum : (s : Shape) (turns : ℕ → ℕ) (i : ℕ) → IsNest s →
     paid s turns i ≡ sum_to s.loops (λ l. ((s.bound l - 1) * turns l) * bit (enters s l i))
 paid-sum s turns i nest = elim (cases_Bool (is_entering s i))
     as (λ _. paid s turns i ≡ sum_to s.loops (λ l. ((s.bound l - 1) * turns l) * bit (enters s l i))) [

@@ -22,7 +22,7 @@ sum_ones zero = refl
 sum_ones (suc n) = omega (arith, sum_ones n)
 
 -- A number goes to one place alone.
-one_most : (n k : ℕ) → sum_to n (λ p. bit (k == p)) ≤ 1
+pub one_most : (n k : ℕ) → sum_to n (λ p. bit (k == p)) ≤ 1
 one_most zero k = omega arith
 one_most (suc n) k =
     elim (cases_eq k (suc n)) as (λ _. sum_to n (λ p. bit (k == p)) + bit (k == suc n) ≤ 1) [

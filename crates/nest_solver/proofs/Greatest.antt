@@ -138,7 +138,7 @@ pub record IsTurnAt (s : Shape) (weight turns : ℕ → ℕ) (depth l : ℕ) : T
   pub here : IsUpTo s.loops l → s.depth l ≡ depth → ((way ≡ []) × (turns l ≡ 0)) ⊎ IsTurn s weight l (turns l) way
   pub none : (s.depth l ≡ depth → ⊥) → way ≡ []
 
-turn-at : (s : Shape) (value turns : ℕ → ℕ) (depth l : ℕ) → IsNest s → IsSolved s value turns depth →
+pub turn-at : (s : Shape) (value turns : ℕ → ℕ) (depth l : ℕ) → IsNest s → IsSolved s value turns depth →
     IsTurnAt s (weight_of s value turns) turns depth l
 turn-at s value turns depth l nest solved =
     elim (cases_eq (s.depth l) depth) as (λ _. IsTurnAt s (weight_of s value turns) turns depth l) [
@@ -189,7 +189,7 @@ counts-to s value turns path nest solved (suc depth) =
           before.counts nest before.are turned before.counted;
     }
 
-path-at : (s : Shape) (value turns round best choice : ℕ → ℕ) → IsNest s → IsRound s 0 round →
+pub path-at : (s : Shape) (value turns round best choice : ℕ → ℕ) → IsNest s → IsRound s 0 round →
     IsSwept s 0 round (weight_of s value turns) best choice →
     (path : List ℕ) × IsPath s (weight_of s value turns) path (weight_of s value turns 1 + best (s.to 1) - 1)
 path-at s value turns round best choice nest rounds swept =

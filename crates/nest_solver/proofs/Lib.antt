@@ -34,3 +34,9 @@ pub mod Plains
 pub mod Sweeping
 pub mod Levels
 pub mod Entering
+pub mod Listed
+pub mod LeafShown
+pub mod LeafValid
+pub mod LeafLaw
+pub mod Facing
+pub mod Putting

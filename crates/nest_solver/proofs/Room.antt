@@ -27,7 +27,7 @@ in-more : (s : Shape) (few many : ℕ → Bool) (f : ℕ → ℕ) → ((p : ℕ)
 in-more s few many f h =
     sum-le s.places (λ p. bit (few p) * f p) (λ p. bit (many p) * f p) (λ p u. in_le (few p) (many p) (f p) (h p))
 
-in_one : (s : Shape) (set : ℕ → Bool) (f : ℕ → ℕ) (t : ℕ) → IsUpTo s.places t → set t ≡ true → f t ≤ sum_in s set f
+pub in_one : (s : Shape) (set : ℕ → Bool) (f : ℕ → ℕ) (t : ℕ) → IsUpTo s.places t → set t ≡ true → f t ≤ sum_in s set f
 in_one s set f t u h =
     omega (arith, sum-part s.places t (λ p. bit (set p) * f p) u, ap (λ b. bit b * f t) h)
 
@@ -322,7 +322,7 @@ ends_out s price turns i nest free c =
       | inr back ↦ absurd (omega (arith, back.2, nest.deep (target s i) (back-of s nest i back.1).up))
     ]
 
-priced_all : (s : Shape) (price turns : ℕ → ℕ) (limit depth : ℕ) → IsNest s → IsCrude s price limit →
+pub priced_all : (s : Shape) (price turns : ℕ → ℕ) (limit depth : ℕ) → IsNest s → IsCrude s price limit →
     AreSolved s (value_at_end s price) turns (suc depth) → sum_in s (λ p. true) (priced s price turns depth) ≤ limit
 priced_all s price turns limit depth nest crude solved =
     omega (

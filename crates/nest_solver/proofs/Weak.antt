@@ -12,7 +12,7 @@ use Rattle.nest_solver.proofs.Along.{returns-none}
 use Rattle.nest_solver.proofs.Counting.{Keeps, comes, goes, goes_in, comes-split, entered-in, weight-counts, returns_other, and_true}
 
 -- A value at a place as a sum over the places.
-spread : (places : ℕ) (v : ℕ → ℕ) (t : ℕ) → t ≤ places →
+pub spread : (places : ℕ) (v : ℕ → ℕ) (t : ℕ) → t ≤ places →
     v t ≡ bit (t == 0) * v 0 + sum_to places (λ p. bit (t == p) * v p)
 spread places v t high = elim (cases_lt 0 t)
     as (λ _. v t ≡ bit (t == 0) * v 0 + sum_to places (λ p. bit (t == p) * v p)) [
@@ -87,10 +87,10 @@ ends-same s v x nest keeps =
     ∙ sym (ends-sum s v x s.from nest.starts)
 
 -- What back arcs are given.
-abbrev given : Shape → (turns : ℕ → ℕ) → ℕ → ℕ
+abbrev pub given : Shape → (turns : ℕ → ℕ) → ℕ → ℕ
 given s turns i = sum_to s.loops (λ l. turns l * bit (returns s l i))
 
-given-back : (s : Shape) (turns : ℕ → ℕ) (i : ℕ) → IsNest s → is_back s i ≡ true → given s turns i ≡ turns (target s i)
+pub given-back : (s : Shape) (turns : ℕ → ℕ) (i : ℕ) → IsNest s → is_back s i ≡ true → given s turns i ≡ turns (target s i)
 given-back s turns i nest e =
     sum-only s.loops (target s i) (λ l. turns l * bit (returns s l i)) (back-of s nest i e).up
     (λ l u n. ap (λ b. turns l * b) (returns_other s l i (λ is. n (sym is))) ∙ omega arith)
@@ -133,7 +133,7 @@ returned-few s x l nest keeps u =
 abbrev first_pays : Shape → (weight v : ℕ → ℕ) → ℕ → ℕ
 first_pays s weight v i = bit (s.from i == 0) * (weight i + v (s.to i))
 
-arc-pays : (s : Shape) (weight turns v : ℕ → ℕ) (depth i : ℕ) → IsNest s → IsDual s weight turns depth v →
+pub arc-pays : (s : Shape) (weight turns v : ℕ → ℕ) (depth i : ℕ) → IsNest s → IsDual s weight turns depth v →
     ((l : ℕ) → IsUpTo s.loops l → s.depth l ≤ depth) → IsUpTo s.arcs i →
     weight i + v (s.to i) + bit (s.from i == 0) * v 0 ≤ v (s.from i) + given s turns i + first_pays s weight v i
 arc-pays s weight turns v depth i nest dual low u =

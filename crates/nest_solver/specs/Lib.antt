@@ -5,6 +5,7 @@ pub mod Ways
 pub mod Solved
 pub mod Crude
 pub mod Counted
+pub mod Putting
 pub mod LeafWeights
 pub mod Groups
 pub mod Depths
