@@ -40,3 +40,5 @@ pub mod LeafValid
 pub mod LeafLaw
 pub mod Facing
 pub mod Putting
+pub mod Best
+pub mod Answering

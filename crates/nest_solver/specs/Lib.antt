@@ -15,3 +15,4 @@ pub mod Orders
 pub mod Plain
 pub mod Sweeps
 pub mod Levels
+pub mod Answers
