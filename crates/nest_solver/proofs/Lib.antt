@@ -42,3 +42,4 @@ pub mod Facing
 pub mod Putting
 pub mod Best
 pub mod Answering
+pub mod Latest

@@ -16,3 +16,4 @@ pub mod Plain
 pub mod Sweeps
 pub mod Levels
 pub mod Answers
+pub mod Bases

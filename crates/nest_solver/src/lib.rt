@@ -2,6 +2,7 @@
 #![tactic(auto)]
 
 mod arrivals;
+mod base;
 mod depths;
 mod groups;
 mod headers;
