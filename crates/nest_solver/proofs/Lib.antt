@@ -1,14 +1,25 @@
 -- Lemmas of this crate.
 pub mod Sums
 pub mod Arcs
+pub mod Puts
+pub mod Grouping
+pub mod Deeps
 pub mod Solving
 pub mod Forward
 pub mod Worths
 pub mod Lifting
+pub mod Heading
+pub mod Pushes
+pub mod Upward
 pub mod Times
 pub mod Along
 pub mod Counting
 pub mod PutBack
+pub mod Queues
+pub mod Opening
+pub mod Ordering
+pub mod Opens
+pub mod Sources
 pub mod Held
 pub mod NetShape
 pub mod Few
@@ -19,6 +30,10 @@ pub mod CountRoom
 pub mod Weak
 pub mod Rows
 pub mod Greatest
+pub mod Plains
+pub mod Sweeping
+pub mod Levels
+pub mod Entering
 pub mod Listed
 pub mod LeafShown
 pub mod LeafValid
@@ -27,3 +42,4 @@ pub mod Facing
 pub mod Putting
 pub mod Best
 pub mod Answering
+pub mod Latest

@@ -7,4 +7,13 @@ pub mod Crude
 pub mod Counted
 pub mod Putting
 pub mod LeafWeights
+pub mod Groups
+pub mod Depths
+pub mod Tables
+pub mod Up
+pub mod Orders
+pub mod Plain
+pub mod Sweeps
+pub mod Levels
 pub mod Answers
+pub mod Bases
