@@ -42,4 +42,5 @@ pub mod Facing
 pub mod Putting
 pub mod Best
 pub mod Answering
+pub mod Following
 pub mod Latest

@@ -16,4 +16,5 @@ pub mod Plain
 pub mod Sweeps
 pub mod Levels
 pub mod Answers
+pub mod Walks
 pub mod Bases
