@@ -43,3 +43,5 @@ pub mod Putting
 pub mod Best
 pub mod Answering
 pub mod Latest
+pub mod Raising
+pub mod WorthLevels
