@@ -1,13 +1,13 @@
 -- Along a way: how often its arcs come to a place and leave it, and which loops they enter.
-use Rattle.std.proofs.Common.{◌≡◌, ◌⊎◌, ℕ, zero, suc, ◌+◌, ◌-◌, ◌*◌, ◌<◌, ◌≤◌, ◌==◌, ◌&&◌, not, cond, Bool, true, false, List, [], ◌∷◌, sum_by, refl, sym, ap, ap₂, ◌∙◌, subst, inl, inr, arith, true≢false}
-use Rattle.std.proofs.lemmas.Bool.{cases_eq, cases_Bool, cases_lt}
+use Rattle.std.proofs.Common.{◌≡◌, ◌⊎◌, ℕ, ◌+◌, ◌<◌, ◌≤◌, ◌==◌, ◌&&◌, not, Bool, true, false, List, [], ◌∷◌, sum_by, refl, sym, ap, ◌∙◌, subst, inl, inr, arith, true≢false}
+use Rattle.std.proofs.lemmas.Bool.{cases_Bool}
 use Rattle.std.proofs.lemmas.Bool.Decides.{nat_tests}
 use Rattle.std.proofs.lemmas.List.Sums.{sum_by-cons}
 use Rattle.nest_solver.specs.Shape.{Shape, IsNest, IsUpTo, target, is_back, is_entering}
 use Rattle.nest_solver.specs.Ways.{IsRound, IsWay, closes, goes_on}
 use Rattle.nest_solver.specs.Counted.{bit, times, enters, returns}
-use Rattle.nest_solver.proofs.Times.{Each, bit_same, bit_other}
-use Rattle.nest_solver.proofs.Arcs.{GoesOn, goes_on-out, closes-out, closes-0, back-of, inside-of, deeper, not_back-0, not_entering-0}
+use Rattle.nest_solver.proofs.Times.{Each, bit_other}
+use Rattle.nest_solver.proofs.Arcs.{goes_on-out, closes-out, back-of, deeper, not_back-0}
 use Rattle.nest_solver.proofs.Solving.{closes_not_entering}
 
 -- A way begins with an arc that ends it, or goes on behind its first arc.
@@ -60,7 +60,7 @@ way-flow s depth round Q end stays q p (k ∷ ks) inside w =
     let starts : bit (s.from k == q) ≡ bit (p == q) = ap (λ n. bit (n == q)) w.1 in
     elim w.2
     as (λ _. sum_by (λ k. bit (s.to k == q)) (k ∷ ks) + bit (p == q)
-        ≡ sum_by (λ k. bit (s.from k == q)) (k ∷ ks) + bit (end == q)) [
+    ≡ sum_by (λ k. bit (s.from k == q)) (k ∷ ks) + bit (end == q)) [
       | inl e ↦ subst
           (λ (more : List ℕ). sum_by (λ k. bit (s.to k == q)) (k ∷ more) + bit (p == q)
           ≡ sum_by (λ k. bit (s.from k == q)) (k ∷ more) + bit (end == q)) (sym e.1)

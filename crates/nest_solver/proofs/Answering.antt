@@ -1,20 +1,18 @@
 -- From the tables of all levels to the answers.
-use Rattle.std.proofs.Common.{◌≡◌, ℕ, zero, suc, ◌+◌, ◌-◌, ◌*◌, ◌^◌, ◌<◌, ◌≤◌, List, [], ◌∷◌, length, All, refl, sym, ap, ◌∙◌, subst, arith}
-use lib.IntN.{ℤ, pos}
-use Rattle.flow_net.specs.Numbers.{IsNumberOf}
+use Rattle.std.proofs.Common.{◌≡◌, ℕ, suc, ◌+◌, ◌-◌, ◌^◌, ◌<◌, ◌≤◌, List, length, All, refl, sym, ap, ◌∙◌, subst, arith}
+use lib.IntN.{pos}
 use Rattle.flow_net.specs.Nested.{IsNested}
 use Rattle.flow_net.specs.declared.net.Net.{Net}
-use Rattle.ipet_program.specs.Counts.{IsGreatest, listed, value_of}
+use Rattle.ipet_program.specs.Counts.{listed}
 use Rattle.ipet_program.specs.Programs.{IsProgramOf, crude_limit}
 use Rattle.ipet_program.specs.declared.certificate.Count.{Count}
 use Rattle.ipet_program.specs.declared.leaf.Leaf.{Leaf}
-use Rattle.ipet_program.specs.declared.leaf.Weight.{Weight}
 use Rattle.ipet_program.specs.declared.program.Program.{Program}
 use Rattle.nest_solver.specs.Answers.{ShowsGreatest, AreGreatest, AreWorths, counts_to}
 use Rattle.nest_solver.specs.Counted.{IsPath}
 use Rattle.nest_solver.specs.LeafWeights.{IsLeafOf, multiplier, weights_to}
 use Rattle.nest_solver.specs.Nets.{HasDepths, HasHeaders, shape_of, value_at_end}
-use Rattle.nest_solver.specs.Shape.{Shape, IsNest, IsUpTo}
+use Rattle.nest_solver.specs.Shape.{IsNest, IsUpTo}
 use Rattle.nest_solver.specs.Solved.{weight_of, AreSolved}
 use Rattle.nest_solver.specs.Ways.{IsRound, IsSwept}
 use Rattle.nest_solver.proofs.Forward.{entry-live}
@@ -22,10 +20,12 @@ use Rattle.nest_solver.proofs.Room.{total-small}
 use Rattle.nest_solver.proofs.NetShape.{shape-nest}
 use Rattle.nest_solver.proofs.Rows.{crude-net}
 use Rattle.nest_solver.proofs.Facing.{small-numbers}
-use Rattle.nest_solver.proofs.Putting.{IsCountedTo, counted-same}
+use Rattle.nest_solver.specs.Putting.{IsCountedTo}
+use Rattle.nest_solver.proofs.Putting.{counted-same}
 use Rattle.nest_solver.proofs.Greatest.{greatest-counts, counts-best}
 use Rattle.nest_solver.proofs.LeafLaw.{leaf-shows}
 use Rattle.nest_solver.proofs.Best.{weights-first, counts-named, counts-rising, counts-taken, counts-listed}
+use Rattle.nest_solver.specs.Crude.{IsCrude}
 
 -- Each arc to a place has a value, since each place costs something.
 pub values-some : (net : Net) (price : ℕ → ℕ) (program : Program) (depths headed : ℕ → ℕ) (i : ℕ) →
@@ -36,7 +36,7 @@ values-some net price program depths headed i nest is u low =
 
 pub crude-tables : (net : Net) (price : ℕ → ℕ) (program : Program) (depths headed : ℕ → ℕ) → IsNested net →
     HasDepths net depths → HasHeaders net headed → IsProgramOf net price program →
-    Rattle.nest_solver.specs.Crude.IsCrude (shape_of net depths headed) price crude_limit
+    IsCrude (shape_of net depths headed) price crude_limit
 crude-tables net price program depths headed nested has heads is =
     crude-net net price program depths headed nested is (shape-nest net depths headed nested has heads).deep
 
@@ -46,9 +46,9 @@ pub total-in : (net : Net) (price : ℕ → ℕ) (program : Program) (depths hea
     AreSolved (shape_of net depths headed) (value_at_end (shape_of net depths headed) price) turns 1 →
     IsRound (shape_of net depths headed) 0 round →
     IsSwept (shape_of net depths headed) 0 round
-        (weight_of (shape_of net depths headed) (value_at_end (shape_of net depths headed) price) turns) best choice →
+    (weight_of (shape_of net depths headed) (value_at_end (shape_of net depths headed) price) turns) best choice →
     total ≡ weight_of (shape_of net depths headed) (value_at_end (shape_of net depths headed) price) turns 1
-        + best ((shape_of net depths headed).to 1) - 1 →
+    + best ((shape_of net depths headed).to 1) - 1 →
     (0 < total) × (total ≤ crude_limit)
 total-in net price program depths headed turns round best choice total nested has heads is solved rounds swept e =
     let nest = shape-nest net depths headed nested has heads in
@@ -70,13 +70,13 @@ pub leaf-greatest : (net : Net) (price : ℕ → ℕ) (program : Program) (depth
     AreSolved (shape_of net depths headed) (value_at_end (shape_of net depths headed) price) turns 1 →
     IsRound (shape_of net depths headed) 0 round →
     IsSwept (shape_of net depths headed) 0 round
-        (weight_of (shape_of net depths headed) (value_at_end (shape_of net depths headed) price) turns) best choice →
+    (weight_of (shape_of net depths headed) (value_at_end (shape_of net depths headed) price) turns) best choice →
     total ≡ weight_of (shape_of net depths headed) (value_at_end (shape_of net depths headed) price) turns 1
-        + best ((shape_of net depths headed).to 1) - 1 →
+    + best ((shape_of net depths headed).to 1) - 1 →
     ((l : ℕ) → IsUpTo (length net.loops) l → depths l ≤ depth) → depth ≤ 2 ^ 26 →
     AreWorths (shape_of net depths headed)
-        (weight_of (shape_of net depths headed) (value_at_end (shape_of net depths headed) price) turns) turns depth total
-        worth →
+    (weight_of (shape_of net depths headed) (value_at_end (shape_of net depths headed) price) turns) turns depth total
+    worth →
     IsLeafOf (shape_of net depths headed) total worth turns leaf → ShowsGreatest program leaf
 leaf-greatest net price program depths headed turns round best choice worth depth total leaf nested few has heads is
     solved rounds swept e low shallow are of_leaf =
@@ -100,7 +100,7 @@ leaf-greatest net price program depths headed turns round best choice worth dept
       more = row_first.0;
       first = of_leaf.weights
           ∙ ap (weights_to (multiplier s total worth turns))
-              (let n : s.places + 1 + s.loops ≡ suc (s.places + s.loops) = omega arith in n)
+          (let n : s.places + 1 + s.loops ≡ suc (s.places + s.loops) = omega arith in n)
           ∙ row_first.1;
       counts = found.0;
       greatest = found.1;
@@ -113,15 +113,15 @@ pub counts-greatest : (net : Net) (price : ℕ → ℕ) (program : Program)
     IsNested net → HasDepths net depths → HasHeaders net headed → IsProgramOf net price program →
     AreSolved (shape_of net depths headed) (value_at_end (shape_of net depths headed) price) turns 1 →
     IsSwept (shape_of net depths headed) 0 round
-        (weight_of (shape_of net depths headed) (value_at_end (shape_of net depths headed) price) turns) best choice →
+    (weight_of (shape_of net depths headed) (value_at_end (shape_of net depths headed) price) turns) best choice →
     total ≡ weight_of (shape_of net depths headed) (value_at_end (shape_of net depths headed) price) turns 1
-        + best ((shape_of net depths headed).to 1) - 1 →
+    + best ((shape_of net depths headed).to 1) - 1 →
     IsPath (shape_of net depths headed)
-        (weight_of (shape_of net depths headed) (value_at_end (shape_of net depths headed) price) turns) path total →
+    (weight_of (shape_of net depths headed) (value_at_end (shape_of net depths headed) price) turns) path total →
     ((l : ℕ) → IsUpTo (length net.loops) l → depths l ≤ depth) →
     IsCountedTo (shape_of net depths headed)
-        (weight_of (shape_of net depths headed) (value_at_end (shape_of net depths headed) price) turns) turns path depth
-        counts →
+    (weight_of (shape_of net depths headed) (value_at_end (shape_of net depths headed) price) turns) turns path depth
+    counts →
     AreGreatest program (counts_to counts (length net.arcs))
 counts-greatest net price program depths headed turns round best choice counts depth total path nested has heads is
     solved swept e out low counted =

@@ -1,6 +1,6 @@
 -- What the tests of arcs tell: back arcs, entering arcs, arcs that end a way and those by which it goes on.
-use Rattle.std.proofs.Common.{◌≡◌, ◌⊎◌, ℕ, suc, ◌<◌, ◌≤◌, ◌==◌, ◌&&◌, ◌||◌, not, cond, Bool, true, false, refl, sym, ap, ◌∙◌, subst, inl, inr, arith, true≢false}
-use Rattle.std.proofs.lemmas.Bool.{cases_eq, cases_Bool, cases_lt}
+use Rattle.std.proofs.Common.{◌≡◌, ◌⊎◌, ℕ, ◌<◌, ◌==◌, ◌&&◌, ◌||◌, not, cond, Bool, true, false, refl, sym, ap, ◌∙◌, subst, inl, inr, arith, true≢false}
+use Rattle.std.proofs.lemmas.Bool.{cases_eq}
 use Rattle.std.proofs.lemmas.Bool.Decides.{nat_tests}
 use Rattle.nest_solver.specs.Shape.{Shape, IsNest, IsUpTo, target, is_back, is_entering}
 use Rattle.nest_solver.specs.Ways.{IsRound, closes, goes_on}
@@ -119,14 +119,14 @@ closes_by : (to depth deep : ℕ) (back : Bool) →
     ((to ≡ 0) × (depth ≡ 0)) ⊎ ((0 < to) × (back ≡ true) × (deep ≡ depth))
 closes_by to depth deep true e = elim (cases_eq to 0)
     as (λ _. ((to ≡ 0) × (depth ≡ 0)) ⊎ ((0 < to) × (true ≡ true) × (deep ≡ depth))) [
-  | inl z ↦ inl (z, grind (arith, nat_tests))
-  | inr some ↦ inr (omega (arith, some), refl, grind (arith, nat_tests))
-]
+      | inl z ↦ inl (z, grind (arith, nat_tests))
+      | inr some ↦ inr (omega (arith, some), refl, grind (arith, nat_tests))
+    ]
 closes_by to depth deep false e = elim (cases_eq to 0)
     as (λ _. ((to ≡ 0) × (depth ≡ 0)) ⊎ ((0 < to) × (false ≡ true) × (deep ≡ depth))) [
-  | inl z ↦ inl (z, grind (arith, nat_tests))
-  | inr some ↦ grind (arith, nat_tests)
-]
+      | inl z ↦ inl (z, grind (arith, nat_tests))
+      | inr some ↦ grind (arith, nat_tests)
+    ]
 
 -- An arc that ends a way.
 pub closes-out : (s : Shape) (depth i : ℕ) → closes s depth i ≡ true →
@@ -161,14 +161,14 @@ goes_by : (from to depth r q : ℕ) (back : Bool) →
 goes_by from to depth r q true e = grind (arith, nat_tests)
 goes_by from to depth r q false e = elim (cases_eq depth 0)
     as (λ _. (0 < from) × (0 < to) × (false ≡ false) × ((depth ≡ 0) ⊎ ((0 < r) × (r ≡ q)))) [
-  | inl z ↦ (grind (arith, nat_tests), grind (arith, nat_tests), refl, inl z)
-  | inr some ↦ (
-    grind (arith, nat_tests),
-    grind (arith, nat_tests),
-    refl,
-    inr (grind (arith, nat_tests), grind (arith, nat_tests)),
-  )
-]
+      | inl z ↦ (grind (arith, nat_tests), grind (arith, nat_tests), refl, inl z)
+      | inr some ↦ (
+        grind (arith, nat_tests),
+        grind (arith, nat_tests),
+        refl,
+        inr (grind (arith, nat_tests), grind (arith, nat_tests)),
+      )
+    ]
 
 pub goes_on-out : (s : Shape) (depth : ℕ) (round : ℕ → ℕ) (i : ℕ) → goes_on s depth round i ≡ true →
     GoesOn s depth round i

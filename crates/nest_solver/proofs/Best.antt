@@ -1,36 +1,24 @@
 -- The answers: the leaf shows the greatest value, and the listed counts have it.
-use Rattle.std.proofs.Common.{◌≡◌, ◌⊎◌, ℕ, zero, suc, ◌+◌, ◌-◌, ◌*◌, ◌^◌, ◌<◌, ◌≤◌, ◌==◌, cond, Bool, true, false, List, [], ◌∷◌, ◌++◌, length, get_or, All, AllPairs, refl, sym, ap, ap₂, ◌∙◌, subst, inl, inr, arith, append-nil, length-append}
-use Rattle.std.proofs.lemmas.Bool.{cases_eq, cases_lt, cond-true, cond-false, eq-eqb, ne_eqb}
+use Rattle.std.proofs.Common.{◌≡◌, ℕ, zero, suc, ◌+◌, ◌-◌, ◌^◌, ◌<◌, ◌≤◌, ◌==◌, List, [], ◌∷◌, ◌++◌, get_or, All, AllPairs, refl, sym, ap, ◌∙◌, subst, inl, inr, arith, append-nil}
+use Rattle.std.proofs.lemmas.Bool.{cases_eq, cond-true, cond-false, eq-eqb, ne_eqb}
 use Rattle.std.proofs.lemmas.Int.{ints}
-use Rattle.std.proofs.lemmas.List.Elements.{All-nil, All-cons, All-append, All-get_or}
+use Rattle.std.proofs.lemmas.List.Elements.{All-nil, All-cons, All-append, All-get_or, All-head, All-tail}
 use Rattle.std.proofs.lemmas.List.Quantifiers.{all_pairs_push}
 use lib.IntN.{ℤ, pos, negsuc}
-use Rattle.flow_net.specs.Nested.{IsNested}
-use Rattle.flow_net.specs.declared.net.Net.{Net}
-use Rattle.ipet_program.specs.Counts.{IsGreatest, NamesColumns, listed, value_of}
-use Rattle.ipet_program.specs.Programs.{IsProgramOf, crude_limit}
-use Rattle.ipet_program.specs.Sums.{sum_to}
+use Rattle.ipet_program.specs.Counts.{listed}
 use Rattle.ipet_program.specs.declared.certificate.Count.{Count}
-use Rattle.ipet_program.specs.declared.leaf.Leaf.{Leaf}
 use Rattle.ipet_program.specs.declared.leaf.Weight.{Weight}
-use Rattle.ipet_program.specs.declared.program.Program.{Program}
-use Rattle.nest_solver.specs.Answers.{ShowsGreatest, AreGreatest, AreWorths, count_at, counts_to}
-use Rattle.nest_solver.specs.Counted.{IsPath}
-use Rattle.nest_solver.specs.LeafWeights.{AreSmall, IsLeafOf, multiplier, weight_at, weights_to}
-use Rattle.nest_solver.specs.Nets.{HasDepths, HasHeaders, shape_of, value_at_end}
+use Rattle.nest_solver.specs.Answers.{AreWorths, count_at, counts_to}
+use Rattle.nest_solver.specs.LeafWeights.{weight_at, weights_to}
 use Rattle.nest_solver.specs.Shape.{Shape, IsNest, IsUpTo, IsRising}
-use Rattle.nest_solver.specs.Solved.{weight_of, AreSolved, IsDual, base_worth, lifted}
+use Rattle.nest_solver.specs.Solved.{weight_of, base_worth, lifted}
 use Rattle.nest_solver.specs.Ways.{IsRound, IsSwept}
-use Rattle.nest_solver.proofs.Sums.{up_more, up_last}
+use Rattle.nest_solver.proofs.Sums.{up_last}
 use Rattle.nest_solver.proofs.Forward.{entry-live}
 use Rattle.nest_solver.proofs.Worths.{base-dual, base-live, base-zero, lift-entry, lift-zero}
 use Rattle.nest_solver.proofs.Lifting.{lift-dual}
-use Rattle.nest_solver.proofs.NetShape.{shape-nest}
 use Rattle.nest_solver.proofs.Listed.{weights-all}
 use Rattle.nest_solver.proofs.Facing.{base-low, lift-low}
-use Rattle.nest_solver.proofs.Putting.{IsCountedTo, counted-same}
-use Rattle.nest_solver.proofs.Greatest.{greatest-counts, counts-best}
-use Rattle.nest_solver.proofs.LeafLaw.{leaf-shows}
 
 -- ---- Lists by rising number.
 pairs_nil : {X : Type 0} (R : X → X → Type 0) → AllPairs R []
@@ -86,8 +74,7 @@ pub weights-first : (times : ℕ → ℤ) (total n : ℕ) → times 1 ≡ pos to
 weights-first times total zero e some =
     ([], weight_first (times 1) (total - 1) (e ∙ ap (λ (k : ℕ). pos k) (let f : total ≡ suc (total - 1) = omega (arith, some) in f)))
 weights-first times total (suc n) e some =
-    let before = weights-first times total n e some in
-    (
+    let before = weights-first times total n e some in (
       before.0 ++ weight_at (suc (suc n)) (times (suc (suc n))),
       ap (λ (xs : List Weight). xs ++ weight_at (suc (suc n)) (times (suc (suc n)))) before.1,
     )
@@ -157,8 +144,8 @@ listed_behind : (xs ys : List Count) (n column : ℕ) → All (CountBelow n) xs 
     listed (xs ++ ys) column ≡ listed ys column
 listed_behind [] ys n column all less = refl
 listed_behind (x ∷ xs) ys n column all less =
-    listed_past x (xs ++ ys) column (λ e. omega (arith, e, Rattle.std.proofs.lemmas.List.Elements.All-head (CountBelow n) x xs all, less))
-    ∙ listed_behind xs ys n column (Rattle.std.proofs.lemmas.List.Elements.All-tail (CountBelow n) x xs all) less
+    listed_past x (xs ++ ys) column (λ e. omega (arith, e, All-head (CountBelow n) x xs all, less))
+    ∙ listed_behind xs ys n column (All-tail (CountBelow n) x xs all) less
 
 listed_front : (xs ys : List Count) (column : ℕ) → listed ys column ≡ 0 →
     listed (xs ++ ys) column ≡ listed xs column
@@ -189,9 +176,9 @@ counts-listed counts (suc n) column u =
           (omega arith)
           ∙ listed_one (suc n) (counts (suc n)))
       | inr differ ↦
-        listed_front (counts_to counts n) (count_at (suc n) (counts (suc n))) column
-        (listed_other (suc n) (counts (suc n)) column (λ e. differ (sym e)))
-        ∙ counts-listed counts n column (omega (arith, u, differ))
+          listed_front (counts_to counts n) (count_at (suc n) (counts (suc n))) column
+          (listed_other (suc n) (counts (suc n)) column (λ e. differ (sym e)))
+          ∙ counts-listed counts n column (omega (arith, u, differ))
     ]
 
 -- ---- Worths.

@@ -1,17 +1,16 @@
 -- Counts have room in 64 bits: none is above the value of the way out.
-use Rattle.std.proofs.Common.{◌≡◌, ◌⊎◌, ℕ, zero, suc, ◌+◌, ◌-◌, ◌*◌, ◌<◌, ◌≤◌, ◌==◌, Bool, true, false, List, [], ◌∷◌, sum_by, refl, sym, ap, ◌∙◌, subst, inl, inr, arith, mul-le-mul_left, mul-le-mul_right}
+use Rattle.std.proofs.Common.{◌≡◌, ℕ, zero, suc, ◌+◌, ◌-◌, ◌*◌, ◌<◌, ◌≤◌, ◌==◌, Bool, true, false, List, ◌∷◌, sum_by, refl, sym, ap, ◌∙◌, subst, inl, inr, arith, mul-le-mul_left, mul-le-mul_right}
 use Rattle.std.proofs.lemmas.Bool.{cases_lt}
 use Rattle.std.proofs.lemmas.List.Sums.{sum_by-cons}
 use Rattle.ipet_program.specs.Sums.{sum_to}
 use Rattle.nest_solver.specs.Shape.{Shape, IsNest, IsUpTo}
-use Rattle.nest_solver.specs.Ways.{IsWay}
 use Rattle.nest_solver.specs.Solved.{weight_of}
-use Rattle.nest_solver.specs.Counted.{bit, times, entered, added, IsCounted, IsPath, IsTurn, AreWays, put_back, with_ways}
-use Rattle.nest_solver.proofs.Sums.{sum-le, sum-none, sum-part}
+use Rattle.nest_solver.specs.Counted.{bit, times, entered, IsCounted, IsPath, IsTurn, AreWays, put_back, with_ways}
+use Rattle.nest_solver.proofs.Sums.{sum-none, sum-part}
 use Rattle.nest_solver.proofs.Arcs.{goes_on-out}
-use Rattle.nest_solver.proofs.Times.{Each, bit_same, bit_other, dot-counted}
-use Rattle.nest_solver.proofs.Along.{Stays, way-sum, stays-out, stays-turn, in-header}
-use Rattle.nest_solver.proofs.Counting.{Keeps, comes, counted-keeps, counted-value_most, each-way, ways-in, path-in}
+use Rattle.nest_solver.proofs.Times.{bit_same, bit_other, dot-counted}
+use Rattle.nest_solver.proofs.Along.{way-sum, stays-out, stays-turn, in-header}
+use Rattle.nest_solver.proofs.Counting.{comes, counted-keeps, counted-value_most, each-way, ways-in, path-in}
 use Rattle.nest_solver.proofs.PutBack.{AreTurned, ways-level, counted-level}
 
 bit_most : (a b : ℕ) → bit (a == b) ≤ 1

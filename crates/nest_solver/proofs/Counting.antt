@@ -1,18 +1,17 @@
 -- Counts of a way out and of turns: they keep each place and each loop, and their value is known.
-use Rattle.std.proofs.Common.{◌≡◌, ◌⊎◌, ℕ, zero, suc, ◌+◌, ◌-◌, ◌*◌, ◌<◌, ◌≤◌, ◌==◌, ◌&&◌, not, cond, Bool, true, false, List, [], ◌∷◌, sum_by, refl, sym, ap, ap₂, ◌∙◌, subst, inl, inr, arith, true≢false, mul-le-mul_left, mul_comm}
-use Rattle.std.proofs.lemmas.Bool.{cases_eq, cases_Bool, cases_lt, cond-true, cond-false}
+use Rattle.std.proofs.Common.{◌≡◌, ◌⊎◌, ℕ, ◌+◌, ◌-◌, ◌*◌, ◌<◌, ◌≤◌, ◌==◌, ◌&&◌, not, Bool, true, false, List, [], ◌∷◌, sum_by, refl, sym, ap, ap₂, ◌∙◌, subst, inl, inr, arith, mul-le-mul_left, mul_comm}
+use Rattle.std.proofs.lemmas.Bool.{cases_eq, cases_Bool, cases_lt}
 use Rattle.std.proofs.lemmas.Bool.Decides.{nat_tests}
 use Rattle.std.proofs.lemmas.List.Sums.{sum_by-cons}
 use Rattle.ipet_program.specs.Sums.{sum_to}
 use Rattle.nest_solver.specs.Shape.{Shape, IsNest, IsUpTo, target, is_back, is_entering}
-use Rattle.nest_solver.specs.Ways.{IsRound, IsWay}
 use Rattle.nest_solver.specs.Solved.{paid, weight_of}
-use Rattle.nest_solver.specs.Counted.{bit, times, enters, returns, entered, added, IsCounted, IsPath, IsTurn, AreWays, put_back, with_ways}
-use Rattle.nest_solver.proofs.Sums.{sum-same, sum-le, sum-add, sum-scale, sum-none, sum-only, sum-swap, sum-part}
-use Rattle.nest_solver.proofs.Arcs.{target-is, back-from, entering-from, entering-of, back-of, not_back_from-0}
+use Rattle.nest_solver.specs.Counted.{bit, times, enters, returns, entered, IsCounted, IsPath, IsTurn, AreWays}
+use Rattle.nest_solver.proofs.Sums.{sum-same, sum-le, sum-add, sum-scale, sum-none, sum-only, sum-swap}
+use Rattle.nest_solver.proofs.Arcs.{target-is, back-from, entering-from, entering-of, not_back_from-0}
 use Rattle.nest_solver.proofs.Solving.{paid-some, paid-none}
-use Rattle.nest_solver.proofs.Times.{Each, bit_same, bit_other, dot-times, dot-added, dot-counted}
-use Rattle.nest_solver.proofs.Along.{way_in, way-flow, way-first, way-enters, path-returns, turn-returns, stays-out, stays-turn, in-header, returns-none, enters-none, enters-other}
+use Rattle.nest_solver.proofs.Times.{Each, bit_same, bit_other, dot-counted}
+use Rattle.nest_solver.proofs.Along.{way_in, way-flow, way-first, path-returns, turn-returns, stays-out, stays-turn, in-header, returns-none, enters-none, enters-other}
 
 -- Counts that the rows of a net's program allow: arc 1 comes once, each place is left as often as it is
 -- come to, and each header is come to at most bound times as often as its loop is entered.
@@ -216,11 +215,11 @@ counted-kept : (s : Shape) (weight turns : ℕ → ℕ) (depth total : ℕ) (pat
 counted-kept s weight turns depth total path ways counts nest is are counted p v =
     dot-counted s (comes s p) path ways counts inside all counted
     ∙ ap₂ (λ a b. a + b) (path-flow s weight path total nest is p v.0)
-        (sum-same s.loops (λ l. ((s.bound l - 1) * entered s counts l) * sum_by (comes s p) (ways l))
-        (λ l. ((s.bound l - 1) * entered s counts l) * sum_by (goes s p) (ways l))
-        (λ l u. ap (λ n. ((s.bound l - 1) * entered s counts l) * n)
-        (each-way s weight turns depth ways are (λ ks. sum_by (comes s p) ks ≡ sum_by (goes s p) ks) l u refl
-        (λ turn. turn-flow s weight l (turns l) (ways l) nest u turn p))))
+    (sum-same s.loops (λ l. ((s.bound l - 1) * entered s counts l) * sum_by (comes s p) (ways l))
+    (λ l. ((s.bound l - 1) * entered s counts l) * sum_by (goes s p) (ways l))
+    (λ l u. ap (λ n. ((s.bound l - 1) * entered s counts l) * n)
+    (each-way s weight turns depth ways are (λ ks. sum_by (comes s p) ks ≡ sum_by (goes s p) ks) l u refl
+    (λ turn. turn-flow s weight l (turns l) (ways l) nest u turn p))))
     ∙ sym (dot-counted s (goes s p) path ways counts inside all counted)
   where
     inside : Each (IsUpTo s.arcs) path
@@ -326,12 +325,12 @@ paid-counts s turns counts nest =
     ∙ sym (sum-scale s.loops (counts i) (λ l. ((s.bound l - 1) * turns l) * bit (enters s l i))))
     ∙ sum-swap s.arcs s.loops (λ i l. counts i * (((s.bound l - 1) * turns l) * bit (enters s l i)))
     ∙ sum-same s.loops
-        (λ l. sum_to s.arcs (λ i. counts i * (((s.bound l - 1) * turns l) * bit (enters s l i))))
-        (λ l. ((s.bound l - 1) * turns l) * entered s counts l)
-        (λ l u. sum-same s.arcs (λ i. counts i * (((s.bound l - 1) * turns l) * bit (enters s l i)))
-        (λ i. ((s.bound l - 1) * turns l) * (bit (enters s l i) * counts i))
-        (λ i v. turn (counts i) ((s.bound l - 1) * turns l) (bit (enters s l i)))
-        ∙ sum-scale s.arcs ((s.bound l - 1) * turns l) (λ i. bit (enters s l i) * counts i))
+    (λ l. sum_to s.arcs (λ i. counts i * (((s.bound l - 1) * turns l) * bit (enters s l i))))
+    (λ l. ((s.bound l - 1) * turns l) * entered s counts l)
+    (λ l u. sum-same s.arcs (λ i. counts i * (((s.bound l - 1) * turns l) * bit (enters s l i)))
+    (λ i. ((s.bound l - 1) * turns l) * (bit (enters s l i) * counts i))
+    (λ i v. turn (counts i) ((s.bound l - 1) * turns l) (bit (enters s l i)))
+    ∙ sum-scale s.arcs ((s.bound l - 1) * turns l) (λ i. bit (enters s l i) * counts i))
   where
     turn : (x m b : ℕ) → x * (m * b) ≡ m * (b * x)
     turn x m b = omega arith
@@ -339,7 +338,7 @@ paid-counts s turns counts nest =
 pub weight-counts : (s : Shape) (value turns counts : ℕ → ℕ) → IsNest s →
     sum_to s.arcs (λ i. weight_of s value turns i * counts i)
     ≡ sum_to s.arcs (λ i. value i * counts i)
-        + sum_to s.loops (λ l. ((s.bound l - 1) * turns l) * entered s counts l)
+    + sum_to s.loops (λ l. ((s.bound l - 1) * turns l) * entered s counts l)
 weight-counts s value turns counts nest =
     sum-same s.arcs (λ i. weight_of s value turns i * counts i) (λ i. value i * counts i + paid s turns i * counts i)
     (λ i u. omega arith)

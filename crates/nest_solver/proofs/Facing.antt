@@ -1,21 +1,21 @@
 -- What changes from level to level in the tables of weights and turns, and how large their numbers get.
-use Rattle.std.proofs.Common.{◌≡◌, ◌⊎◌, ℕ, zero, suc, ◌+◌, ◌-◌, ◌*◌, ◌^◌, ◌<◌, ◌≤◌, ◌==◌, ◌&&◌, nat_lt, cond, Bool, true, false, refl, sym, ap, ◌∙◌, subst, inl, inr, arith, mul-le-mul_left}
+use Rattle.std.proofs.Common.{◌≡◌, ℕ, zero, suc, ◌+◌, ◌-◌, ◌*◌, ◌^◌, ◌<◌, ◌≤◌, ◌==◌, ◌&&◌, nat_lt, cond, Bool, true, false, refl, sym, ap, ◌∙◌, subst, inl, inr, arith}
 use Rattle.std.proofs.lemmas.Bool.{cases_eq, cases_lt, cases_Bool}
 use Rattle.std.proofs.lemmas.Bool.Decides.{nat_tests}
 use Rattle.nest_solver.specs.Shape.{Shape, IsNest, IsUpTo, target, is_entering}
 use Rattle.nest_solver.specs.Nets.{value_at_end}
-use Rattle.nest_solver.specs.Ways.{IsRound, IsSwept, HasRoom, reach}
-use Rattle.nest_solver.specs.Solved.{paid, weight_of, IsSolved, AreSolved, AreTurns, base_shift, base_worth, lifted}
+use Rattle.nest_solver.specs.Ways.{IsRound, IsSwept}
+use Rattle.nest_solver.specs.Solved.{weight_of, IsSolved, AreSolved, AreTurns, base_worth, lifted}
 use Rattle.nest_solver.specs.Counted.{bit}
-use Rattle.nest_solver.specs.Crude.{grown, IsCrude}
+use Rattle.nest_solver.specs.Crude.{IsCrude}
 use Rattle.nest_solver.specs.LeafWeights.{AreSmall}
 use Rattle.nest_solver.proofs.Sums.{sum-part}
 use Rattle.nest_solver.proofs.Arcs.{entering-of}
 use Rattle.nest_solver.proofs.Solving.{paid-some, paid-none}
 use Rattle.nest_solver.proofs.Forward.{swept-same, swept-small}
 use Rattle.nest_solver.proofs.Worths.{base-zero, base-live, base-dead, lift-small}
-use Rattle.nest_solver.proofs.Priced.{sum_in, priced, extra, carried, takes-all}
-use Rattle.nest_solver.proofs.Room.{room-level, priced_all, in_one}
+use Rattle.nest_solver.proofs.Priced.{priced, carried}
+use Rattle.nest_solver.proofs.Room.{room-level, fits-end, priced_all, in_one}
 
 -- ---- Weights.
 -- Where no loop turns, an arc weighs its value.
@@ -37,14 +37,14 @@ pub weights-level : (s : Shape) (value best before after : ℕ → ℕ) (depth i
     ((l : ℕ) → IsUpTo s.loops l → s.depth l ≡ depth → before l ≡ 0) →
     weight_of s value after i
     ≡ weight_of s value before i
-        + cond (is_entering s i && (s.depth (target s i) == depth))
-            ((s.bound (target s i) - 1) * (best (s.header (target s i)) - 1)) 0
+    + cond (is_entering s i && (s.depth (target s i) == depth))
+    ((s.bound (target s i) - 1) * (best (s.header (target s i)) - 1)) 0
 weights-level s value best before after depth i nest turns fresh =
     elim (cases_Bool (is_entering s i))
     as (λ _. weight_of s value after i
-        ≡ weight_of s value before i
-            + cond (is_entering s i && (s.depth (target s i) == depth))
-                ((s.bound (target s i) - 1) * (best (s.header (target s i)) - 1)) 0) [
+    ≡ weight_of s value before i
+    + cond (is_entering s i && (s.depth (target s i) == depth))
+    ((s.bound (target s i) - 1) * (best (s.header (target s i)) - 1)) 0) [
       | inr out ↦ omega (
         arith,
         paid-none s after i out,
@@ -53,34 +53,34 @@ weights-level s value best before after depth i nest turns fresh =
             ((s.bound (target s i) - 1) * (best (s.header (target s i)) - 1)) out,
       )
       | inl into ↦
-        let up = (entering-of s nest i into).up in
-        elim (cases_eq (s.depth (target s i)) depth)
-        as (λ _. weight_of s value after i
-            ≡ weight_of s value before i
-                + cond (is_entering s i && (s.depth (target s i) == depth))
-                    ((s.bound (target s i) - 1) * (best (s.header (target s i)) - 1)) 0) [
-          | inl e ↦ omega (
-            arith,
-            paid-some s after i into,
-            paid-some s before i into,
-            ap (λ t. (s.bound (target s i) - 1) * t) (fresh (target s i) up e),
-            ap (λ t. (s.bound (target s i) - 1) * t)
-                (turns (target s i) up
-                ∙ here (s.depth (target s i)) (best (s.header (target s i)) - 1) (before (target s i)) e),
-            whole (is_entering s i) (s.depth (target s i))
-                ((s.bound (target s i) - 1) * (best (s.header (target s i)) - 1)) into e,
-          )
-          | inr n ↦ omega (
-            arith,
-            paid-some s after i into,
-            paid-some s before i into,
-            ap (λ t. (s.bound (target s i) - 1) * t)
-                (turns (target s i) up
-                ∙ other (s.depth (target s i)) (best (s.header (target s i)) - 1) (before (target s i)) n),
-            nothing (is_entering s i) (s.depth (target s i))
-                ((s.bound (target s i) - 1) * (best (s.header (target s i)) - 1)) n,
-          )
-        ]
+          let up = (entering-of s nest i into).up in
+          elim (cases_eq (s.depth (target s i)) depth)
+          as (λ _. weight_of s value after i
+          ≡ weight_of s value before i
+          + cond (is_entering s i && (s.depth (target s i) == depth))
+          ((s.bound (target s i) - 1) * (best (s.header (target s i)) - 1)) 0) [
+            | inl e ↦ omega (
+              arith,
+              paid-some s after i into,
+              paid-some s before i into,
+              ap (λ t. (s.bound (target s i) - 1) * t) (fresh (target s i) up e),
+              ap (λ t. (s.bound (target s i) - 1) * t)
+                  (turns (target s i) up
+                  ∙ here (s.depth (target s i)) (best (s.header (target s i)) - 1) (before (target s i)) e),
+              whole (is_entering s i) (s.depth (target s i))
+                  ((s.bound (target s i) - 1) * (best (s.header (target s i)) - 1)) into e,
+            )
+            | inr n ↦ omega (
+              arith,
+              paid-some s after i into,
+              paid-some s before i into,
+              ap (λ t. (s.bound (target s i) - 1) * t)
+                  (turns (target s i) up
+                  ∙ other (s.depth (target s i)) (best (s.header (target s i)) - 1) (before (target s i)) n),
+              nothing (is_entering s i) (s.depth (target s i))
+                  ((s.bound (target s i) - 1) * (best (s.header (target s i)) - 1)) n,
+            )
+          ]
     ]
   where
     none : (a b : Bool) (x : ℕ) → a ≡ false → cond (a && b) x 0 ≡ 0
@@ -123,8 +123,8 @@ turned-again s value turns round best choice depth nest solved rounds swept l u 
     subst (λ (r : ℕ → ℕ). IsSwept s depth r (weight_of s value turns) solved.best solved.choice) same solved.swept in
     solved.turned l u deep
     ∙ ap (λ n. n - 1)
-        (swept-same s depth round (weight_of s value turns) solved.best solved.choice best choice nest again swept
-        (s.header l))
+    (swept-same s depth round (weight_of s value turns) solved.best solved.choice best choice nest again swept
+    (s.header l))
 
 -- ---- Numbers.
 -- What a loop carries, and its turn, are at most the limit.
@@ -137,7 +137,7 @@ turn-carried s price turns depth limit l nest crude solved u deep =
       sum-part s.loops l (λ k. bit ((s.header k == s.header l) && nat_lt depth (s.depth k)) * carried s turns k) u,
       ap (λ b. b * carried s turns l) (here (s.header l) (s.depth l) deep),
       in_one s (λ p. true) (priced s price turns depth) (s.header l) (nest.headers l u) refl,
-      priced_all s price turns limit depth nest crude solved,
+      priced_all s (value_at_end s price) price turns limit depth nest (fits-end s price) crude solved,
     )
   where
     here : (h deeper : ℕ) → depth < deeper → bit ((h == h) && nat_lt depth deeper) ≡ 1
@@ -166,10 +166,10 @@ base-low s rank best p short =
       | inr none ↦ let z : p ≡ 0 = omega (arith, none) in
           omega (arith, ap (base_worth s (2 ^ 63) rank best) z, base-zero s (2 ^ 63) rank best)
       | inl low ↦ elim (cases_lt 0 (best p))
-        as (λ _. base_worth s (2 ^ 63) rank best p ≤ 2 ^ 63 * (s.arcs + 2 + 0)) [
-          | inl some ↦ omega (arith, base-live s (2 ^ 63) rank best p low some, short p)
-          | inr dead ↦ omega (arith, base-dead s (2 ^ 63) rank best p low (omega (arith, dead)))
-        ]
+          as (λ _. base_worth s (2 ^ 63) rank best p ≤ 2 ^ 63 * (s.arcs + 2 + 0)) [
+            | inl some ↦ omega (arith, base-live s (2 ^ 63) rank best p low some, short p)
+            | inr dead ↦ omega (arith, base-dead s (2 ^ 63) rank best p low (omega (arith, dead)))
+          ]
     ]
 
 pub lift-low : (s : Shape) (round best turns worth : ℕ → ℕ) (depth p : ℕ) → ((q : ℕ) → best q ≤ 2 ^ 63) →

@@ -1,21 +1,19 @@
 -- A nested net has no more places and loops than arcs.
-use Rattle.std.proofs.Common.{◌≡◌, ◌⊎◌, ℕ, zero, suc, ◌+◌, ◌*◌, ◌<◌, ◌≤◌, ◌==◌, Bool, true, false, List, [], ◌∷◌, length, Some, refl, sym, ap, ◌∙◌, subst, inl, inr, arith, true≢false}
-use Rattle.std.proofs.lemmas.Bool.{cases_eq, cases_lt, cases_Bool}
-use Rattle.flow_net.specs.Numbers.{item_at, IsNumberOf}
-use Rattle.flow_net.specs.Scopes.{Holds}
+use Rattle.std.proofs.Common.{◌≡◌, ℕ, zero, suc, ◌+◌, ◌≤◌, ◌==◌, List, [], ◌∷◌, length, refl, ap, ◌∙◌, subst, inl, inr, arith}
+use Rattle.std.proofs.lemmas.Bool.{cases_eq}
 use Rattle.flow_net.specs.Nested.{IsNested}
 use Rattle.flow_net.specs.Paths.{IsPath, IsRunPath}
 use Rattle.flow_net.specs.declared.net.Net.{Net}
-use Rattle.flow_net.specs.declared.net.NetArc.{NetArc}
 use Rattle.flow_net.proofs.Numbers.{item_at-within}
 use Rattle.flow_net.proofs.Headers.{enters-each}
 use Rattle.ipet_program.specs.Sums.{sum_to}
-use Rattle.nest_solver.specs.Nets.{HasDepths, HasHeaders, shape_of, holds_of}
-use Rattle.nest_solver.specs.Shape.{Shape, IsNest, IsUpTo}
+use Rattle.nest_solver.specs.Nets.{HasDepths, HasHeaders, shape_of}
+use Rattle.nest_solver.specs.Shape.{Shape, IsUpTo}
 use Rattle.nest_solver.specs.Counted.{bit}
-use Rattle.nest_solver.proofs.Sums.{sum-le, sum-none, sum-only, sum-swap, sum-part}
+use Rattle.nest_solver.proofs.Sums.{sum-le, sum-none, sum-swap, sum-part}
 use Rattle.nest_solver.proofs.Times.{bit_same, bit_other}
-use Rattle.nest_solver.proofs.NetShape.{shape-nest, loop-at}
+use Rattle.nest_solver.proofs.NetShape.{loop-at}
+use Rattle.flow_net.specs.Visits.{target_of}
 
 sum_ones : (n : ℕ) → sum_to n (λ i. 1) ≡ n
 sum_ones zero = refl
@@ -57,7 +55,7 @@ path_last net depth headed from [] to path comes = subst (ComesTo (shape_of net 
 path_last net depth headed from (number ∷ numbers) to path comes =
     let within = item_at-within net.arcs number path.1.0 path.1.1 in
     path_last net depth headed path.1.0.to numbers to path.1.3
-    (number, (within.from_one, within.within), ap Rattle.flow_net.specs.Visits.target_of path.1.1)
+    (number, (within.from_one, within.within), ap target_of path.1.1)
 
 run_last : (net : Net) (depth headed : ℕ → ℕ) (numbers : List ℕ) (to : ℕ) → IsRunPath net.arcs numbers to →
     ComesTo (shape_of net depth headed) to
@@ -65,7 +63,7 @@ run_last net depth headed [] to path = absurd path
 run_last net depth headed (number ∷ numbers) to path =
     let within = item_at-within net.arcs number path.1.0 path.1.1 in
     path_last net depth headed path.1.0.to numbers to path.1.3
-    (number, (within.from_one, within.within), ap Rattle.flow_net.specs.Visits.target_of path.1.1)
+    (number, (within.from_one, within.within), ap target_of path.1.1)
 
 pub places-few : (net : Net) → IsNested net → length net.places ≤ length net.arcs
 places-few net nested =
@@ -82,10 +80,9 @@ loops-few net depth headed nested depths headers =
     let enters = enters-each net nested l loop.item loop.there in
     let within = item_at-within net.arcs enters.number enters.arc enters.there in
     let end : enters.arc.to ≡ loop.item.header =
-    nested.entering enters.number l enters.arc loop.item enters.there loop.there enters.inside enters.outside in
-    (
+    nested.entering enters.number l enters.arc loop.item enters.there loop.there enters.inside enters.outside in (
       enters.number,
       (within.from_one, within.within),
-      ap (λ found. headed (Rattle.flow_net.specs.Visits.target_of found)) enters.there
+      ap (λ found. headed (target_of found)) enters.there
           ∙ ap headed end ∙ headers.own l loop.item loop.there,
     ))

@@ -1,11 +1,11 @@
 -- Against the arcs: what holds of a place where it holds of all places behind its arcs, back arcs left out.
-use Rattle.std.proofs.Common.{◌≡◌, ◌⊎◌, ℕ, zero, suc, ◌+◌, ◌<◌, ◌≤◌, Bool, true, false, List, [], ◌∷◌, sum_by, refl, sym, ap, ◌∙◌, subst, inl, inr, arith, true≢false}
+use Rattle.std.proofs.Common.{◌≡◌, ◌⊎◌, ℕ, zero, suc, ◌+◌, ◌<◌, ◌≤◌, true, false, List, [], ◌∷◌, sum_by, refl, sym, ap, ◌∙◌, inl, inr, arith, true≢false}
 use Rattle.ipet_program.specs.Sums.{sum_to}
-use Rattle.nest_solver.specs.Shape.{Shape, IsNest, IsUpTo, IsAhead, target, is_back}
+use Rattle.nest_solver.specs.Shape.{Shape, IsNest, IsUpTo, IsAhead, is_back}
 use Rattle.nest_solver.specs.Shape.IsAhead.{start, along}
-use Rattle.nest_solver.specs.Ways.{IsRound, IsSwept, IsWay, HasRoom, closes, goes_on, reach}
+use Rattle.nest_solver.specs.Ways.{IsSwept, IsWay, HasRoom, closes, goes_on, reach}
 use Rattle.nest_solver.proofs.Sums.{sum-part}
-use Rattle.nest_solver.proofs.Arcs.{GoesOn, goes_on-out, goes_on-in, closes-out, closes-0, not_back_from-0, not_back-0}
+use Rattle.nest_solver.proofs.Arcs.{goes_on-out, goes_on-in, closes-out, closes-0, not_back_from-0}
 use Rattle.nest_solver.proofs.Solving.{reach-cases, reach-closes, reach-goes}
 use Rattle.std.proofs.lemmas.Bool.{cases_lt}
 use Rattle.std.proofs.lemmas.List.Sums.{sum_by-cons}
@@ -18,7 +18,7 @@ forward_by : (s : Shape) → IsNest s → (P : ℕ → Type 0) →
     ((p : ℕ) → IsUpTo s.places p → HoldsBehind s P p → P p) →
     (n p : ℕ) → IsUpTo s.places p → (rank : ℕ → ℕ) →
     ((i : ℕ) → IsUpTo s.arcs i → 0 < s.from i → 0 < s.to i → is_back s i ≡ false →
-        rank (s.from i) < rank (s.to i)) →
+    rank (s.from i) < rank (s.to i)) →
     sum_to s.places rank < rank p + n → P p
 forward_by s nest P step zero p u rank rises high =
     absurd (omega (arith, high, sum-part s.places p rank u))
@@ -26,7 +26,7 @@ forward_by s nest P step (suc n) p u rank rises high =
     step p u (λ i v e low forward.
     let from_low : 0 < s.from i = omega (arith, e, u) in
     forward_by s nest P step n (s.to i) (low, nest.ends i v) rank rises
-        (omega (arith, rises i v from_low low forward, ap rank e, high)))
+    (omega (arith, rises i v from_low low forward, ap rank e, high)))
 
 pub forward : (s : Shape) → IsNest s → (P : ℕ → Type 0) →
     ((p : ℕ) → IsUpTo s.places p → HoldsBehind s P p → P p) → (p : ℕ) → IsUpTo s.places p → P p
@@ -64,13 +64,13 @@ most_of s nest depth round weight best choice other another swept again p u behi
     elim (cases_lt 0 (best p)) as (λ _. best p ≤ other p) [
       | inr none ↦ omega (arith, none)
       | inl some ↦
-        let c = choice p in
-        let here : best p ≡ weight c + reach s depth round best c = swept.tight p some in
-        let more : reach s depth round best c ≤ reach s depth round other c =
-        by some c (swept.up p some) (swept.leaves p some) (reach-cases s depth round best c (swept.leads p some)) in
-        let there : weight c + reach s depth round other c ≤ other (s.from c) =
-        again.closed c (swept.up p some) (omega (arith, more, swept.leads p some)) in
-        omega (arith, here, more, there, ap other (swept.leaves p some))
+          let c = choice p in
+          let here : best p ≡ weight c + reach s depth round best c = swept.tight p some in
+          let more : reach s depth round best c ≤ reach s depth round other c =
+          by some c (swept.up p some) (swept.leaves p some) (reach-cases s depth round best c (swept.leads p some)) in
+          let there : weight c + reach s depth round other c ≤ other (s.from c) =
+          again.closed c (swept.up p some) (omega (arith, more, swept.leads p some)) in
+          omega (arith, here, more, there, ap other (swept.leaves p some))
     ]
   where
     by : 0 < best p → (c : ℕ) → IsUpTo s.arcs c → s.from c ≡ p →

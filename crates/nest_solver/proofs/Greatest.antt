@@ -1,10 +1,10 @@
 -- The counts of the way out and of all turns have the greatest value, and there are such counts.
-use Rattle.std.proofs.Common.{◌≡◌, ◌⊎◌, ◌↔◌, ℕ, zero, suc, ◌+◌, ◌-◌, ◌*◌, ◌<◌, ◌≤◌, ◌==◌, nat_lt, Bool, true, false, List, [], ◌∷◌, length, sum_by, refl, sym, ap, ◌∙◌, subst, inl, inr, arith}
+use Rattle.std.proofs.Common.{◌≡◌, ◌⊎◌, ◌↔◌, ℕ, zero, suc, ◌+◌, ◌-◌, ◌*◌, ◌<◌, ◌≤◌, nat_lt, Bool, true, false, List, [], ◌∷◌, length, refl, sym, ap, ◌∙◌, subst, inl, inr, arith}
 use Rattle.std.proofs.lemmas.Bool.{cases_eq, cases_lt}
 use Rattle.std.proofs.lemmas.Bool.Decides.{nat_tests}
 use Rattle.std.proofs.lemmas.List.Sums.{sum_by-cons}
 use Rattle.std.proofs.lemmas.Int.{ints}
-use lib.IntN.{ℤ, pos}
+use lib.IntN.{pos}
 use lib.Signed.{◌≤ℤ◌}
 use Rattle.flow_net.specs.Nested.{IsNested}
 use Rattle.flow_net.specs.declared.net.Net.{Net}
@@ -13,9 +13,9 @@ use Rattle.ipet_program.specs.Programs.{IsProgramOf}
 use Rattle.ipet_program.specs.Sums.{sum_to}
 use Rattle.ipet_program.specs.declared.program.Program.{Program}
 use Rattle.nest_solver.specs.Nets.{HasDepths, HasHeaders, shape_of, value_at_end}
-use Rattle.nest_solver.specs.Shape.{Shape, IsNest, IsUpTo, IsRising, is_back}
+use Rattle.nest_solver.specs.Shape.{Shape, IsNest, IsUpTo, IsRising}
 use Rattle.nest_solver.specs.Ways.{IsRound, IsSwept, IsWay}
-use Rattle.nest_solver.specs.Solved.{weight_of, IsSolved, AreSolved, IsDual, base_shift, base_worth, lifted}
+use Rattle.nest_solver.specs.Solved.{weight_of, IsSolved, AreSolved, IsDual, base_worth, lifted}
 use Rattle.nest_solver.specs.Counted.{bit, times, entered, IsCounted, IsPath, IsTurn, AreWays, put_back, with_ways}
 use Rattle.nest_solver.proofs.Sums.{sum-le, sum-part}
 use Rattle.nest_solver.proofs.Forward.{entry-live, longest}
@@ -144,26 +144,26 @@ turn-at s value turns depth l nest solved =
     elim (cases_eq (s.depth l) depth) as (λ _. IsTurnAt s (weight_of s value turns) turns depth l) [
       | inr other ↦ record { way = []; here = λ u e. absurd (other e); none = λ n. refl }
       | inl e ↦ elim (cases_lt 0 (solved.best (s.header l)))
-        as (λ _. IsTurnAt s (weight_of s value turns) turns depth l) [
-          | inr nothing ↦ record {
-            way = [];
-            here = λ u f. inl (refl, omega (arith, solved.turned l u f, nothing));
-            none = λ n. refl;
-          }
-          | inl some ↦
-            let way = longest s depth solved.round (weight_of s value turns) solved.best solved.choice nest solved.swept
-            (s.header l) some in
-            record {
-              way = way.way;
-              here = λ u f. inr (record {
-                round = solved.round;
-                rounds = subst (λ (d : ℕ). IsRound s d solved.round) (sym f) solved.rounds;
-                goes = subst (λ (d : ℕ). IsWay s d solved.round (s.header l) way.way) (sym f) way.goes;
-                weighs = omega (arith, solved.turned l u f, way.weighs);
-              });
-              none = λ n. absurd (n e);
+          as (λ _. IsTurnAt s (weight_of s value turns) turns depth l) [
+            | inr nothing ↦ record {
+              way = [];
+              here = λ u f. inl (refl, omega (arith, solved.turned l u f, nothing));
+              none = λ n. refl;
             }
-        ]
+            | inl some ↦
+                let way = longest s depth solved.round (weight_of s value turns) solved.best solved.choice nest solved.swept
+                (s.header l) some in
+                record {
+                  way = way.way;
+                  here = λ u f. inr (record {
+                    round = solved.round;
+                    rounds = subst (λ (d : ℕ). IsRound s d solved.round) (sym f) solved.rounds;
+                    goes = subst (λ (d : ℕ). IsWay s d solved.round (s.header l) way.way) (sym f) way.goes;
+                    weighs = omega (arith, solved.turned l u f, way.weighs);
+                  });
+                  none = λ n. absurd (n e);
+                }
+          ]
     ]
 
 counts-to : (s : Shape) (value turns : ℕ → ℕ) (path : List ℕ) → IsNest s → AreSolved s value turns 1 →
@@ -194,8 +194,7 @@ pub path-at : (s : Shape) (value turns round best choice : ℕ → ℕ) → IsNe
     (path : List ℕ) × IsPath s (weight_of s value turns) path (weight_of s value turns 1 + best (s.to 1) - 1)
 path-at s value turns round best choice nest rounds swept =
     let live = entry-live s round (weight_of s value turns) best choice nest swept in
-    let way = longest s 0 round (weight_of s value turns) best choice nest swept (s.to 1) live in
-    (
+    let way = longest s 0 round (weight_of s value turns) best choice nest swept (s.to 1) live in (
       1 ∷ way.way,
       record {
         more = way.way;
@@ -245,19 +244,19 @@ pub counts-best : (net : Net) (price : ℕ → ℕ) (program : Program) (depths 
     IsNested net → HasDepths net depths → HasHeaders net headed → IsProgramOf net price program →
     AreSolved (shape_of net depths headed) (value_at_end (shape_of net depths headed) price) turns 1 →
     IsSwept (shape_of net depths headed) 0 round
-        (weight_of (shape_of net depths headed) (value_at_end (shape_of net depths headed) price) turns) best choice →
+    (weight_of (shape_of net depths headed) (value_at_end (shape_of net depths headed) price) turns) best choice →
     IsPath (shape_of net depths headed)
-        (weight_of (shape_of net depths headed) (value_at_end (shape_of net depths headed) price) turns) path
-        (weight_of (shape_of net depths headed) (value_at_end (shape_of net depths headed) price) turns 1
-        + best ((shape_of net depths headed).to 1) - 1) →
+    (weight_of (shape_of net depths headed) (value_at_end (shape_of net depths headed) price) turns) path
+    (weight_of (shape_of net depths headed) (value_at_end (shape_of net depths headed) price) turns 1
+    + best ((shape_of net depths headed).to 1) - 1) →
     AreWays (shape_of net depths headed)
-        (weight_of (shape_of net depths headed) (value_at_end (shape_of net depths headed) price) turns) turns depth ways →
+    (weight_of (shape_of net depths headed) (value_at_end (shape_of net depths headed) price) turns) turns depth ways →
     ((l : ℕ) → IsUpTo (length net.loops) l → depths l ≤ depth) →
     IsCounted (shape_of net depths headed) path ways x →
     IsGreatest program x
     × (value_of program x
-        ≡ pos (weight_of (shape_of net depths headed) (value_at_end (shape_of net depths headed) price) turns 1
-        + best ((shape_of net depths headed).to 1) - 1))
+    ≡ pos (weight_of (shape_of net depths headed) (value_at_end (shape_of net depths headed) price) turns 1
+    + best ((shape_of net depths headed).to 1) - 1))
 counts-best net price program depths headed turns round best choice x depth path ways nested has heads is solved swept
     out are all counted =
     let nest = shape-nest net depths headed nested has heads in
@@ -275,11 +274,11 @@ pub greatest-counts : (net : Net) (price : ℕ → ℕ) (program : Program) (dep
     AreSolved (shape_of net depths headed) (value_at_end (shape_of net depths headed) price) turns 1 →
     IsRound (shape_of net depths headed) 0 round →
     IsSwept (shape_of net depths headed) 0 round
-        (weight_of (shape_of net depths headed) (value_at_end (shape_of net depths headed) price) turns) best choice →
+    (weight_of (shape_of net depths headed) (value_at_end (shape_of net depths headed) price) turns) best choice →
     (counts : ℕ → ℕ) × IsGreatest program counts
     × (value_of program counts
-        ≡ pos (weight_of (shape_of net depths headed) (value_at_end (shape_of net depths headed) price) turns 1
-        + best ((shape_of net depths headed).to 1) - 1))
+    ≡ pos (weight_of (shape_of net depths headed) (value_at_end (shape_of net depths headed) price) turns 1
+    + best ((shape_of net depths headed).to 1) - 1))
 greatest-counts net price program depths headed turns round best choice nested has heads is solved rounds swept =
     let nest = shape-nest net depths headed nested has heads in
     let s = shape_of net depths headed in

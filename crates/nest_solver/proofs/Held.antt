@@ -1,15 +1,15 @@
 -- Which scopes hold which places, as a test, and the depths of scopes that lie in one another.
-use Rattle.std.proofs.Common.{◌≡◌, ◌⊎◌, ◌↔◌, ℕ, zero, suc, ◌+◌, ◌<◌, ◌≤◌, ◌==◌, ◌||◌, Bool, true, false, List, length, All, Option, Some, None, refl, sym, ap, ◌∙◌, subst, inl, inr, arith, true≢false}
+use Rattle.std.proofs.Common.{◌≡◌, ◌⊎◌, ◌↔◌, ℕ, zero, suc, ◌+◌, ◌<◌, ◌≤◌, ◌==◌, Bool, true, false, List, length, All, Option, Some, None, refl, sym, ap, ◌∙◌, subst, inl, inr, arith, true≢false}
 use Rattle.std.specs.Bool.{OnTrue, OnFalse}
-use Rattle.std.proofs.lemmas.Bool.{cases_eq, cases_Bool, or_cases, or_left, or_right, eqb-true, eq-eqb, OnTrue_at, OnFalse_at}
+use Rattle.std.proofs.lemmas.Bool.{cases_eq, or_cases, or_left, or_right, eqb-true, eq-eqb, OnTrue_at, OnFalse_at}
 use Rattle.std.proofs.lemmas.Option.{none-some}
-use Rattle.flow_net.specs.Numbers.{item_at, IsNumberOf, IsNumberOrZero}
-use Rattle.flow_net.specs.Scopes.{IsWithin, Holds, HasScopes, ChainsEnd}
+use Rattle.flow_net.specs.Numbers.{item_at, IsNumberOrZero}
+use Rattle.flow_net.specs.Scopes.{IsWithin, Holds, HasScopes}
 use Rattle.flow_net.specs.Scopes.IsWithin.{here, out}
 use Rattle.flow_net.specs.declared.net.LoopInst.{LoopInst}
 use Rattle.flow_net.specs.declared.net.Net.{Net}
 use Rattle.flow_net.specs.declared.net.Place.{Place}
-use Rattle.flow_net.proofs.Numbers.{item_at-there, item_at-all, item_at-within}
+use Rattle.flow_net.proofs.Numbers.{item_at-there, item_at-all}
 use Rattle.flow_net.proofs.Within.{within-same}
 use Rattle.flow_net.proofs.Chains.{around, from_next, around-outward}
 use Rattle.flow_net.proofs.Holds.{holds-place}
@@ -38,10 +38,10 @@ within_told loops numbers (suc n) outer scope inside e =
           (again 0 (omega arith)
           (subst (λ (at : ℕ). is_within loops n outer (outer_of (item_at at loops)) ≡ true) z more))
       | inr some ↦
-        let there = item_at-there loops scope no_loop
-        (record { from_one = omega (arith, some); within = inside }) in
-        out scope _ there (again _ (item_at-all (λ inst. IsNumberOrZero loops inst.outer) loops scope _ numbers there)
-        (subst (λ (found : Option LoopInst). is_within loops n outer (outer_of found) ≡ true) there more))
+          let there = item_at-there loops scope no_loop
+          (record { from_one = omega (arith, some); within = inside }) in
+          out scope _ there (again _ (item_at-all (λ inst. IsNumberOrZero loops inst.outer) loops scope _ numbers there)
+          (subst (λ (found : Option LoopInst). is_within loops n outer (outer_of found) ≡ true) there more))
     ]
 
 from_next_small : (n : ℕ) (count : ℕ → ℕ) → ((scope : ℕ) → count scope ≤ n) → (found : Option LoopInst) →

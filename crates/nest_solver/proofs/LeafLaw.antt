@@ -1,14 +1,14 @@
 -- A leaf with the multipliers of worths and turns is valid and shows the total.
-use Rattle.std.proofs.Common.{◌≡◌, ◌⊎◌, ℕ, zero, suc, ◌+◌, ◌-◌, ◌*◌, ◌^◌, ◌<◌, ◌≤◌, ◌==◌, Bool, true, false, List, [], ◌∷◌, ◌++◌, length, All, Option, Some, None, refl, sym, ap, ◌∙◌, subst, inl, inr, arith, nat_abs, FitsSigned, append-nil}
+use Rattle.std.proofs.Common.{◌≡◌, ℕ, ◌+◌, ◌*◌, ◌^◌, ◌<◌, ◌≤◌, ◌==◌, Bool, true, false, List, [], length, All, sym, ap, ◌∙◌, subst, inl, inr, arith, FitsSigned, append-nil}
 use Rattle.std.specs.Int.{w128}
 use Rattle.std.proofs.lemmas.Bool.{cases_Bool}
 use Rattle.std.proofs.lemmas.Int.{ints, fits_signed_from_abs}
-use lib.IntN.{ℤ, pos, negsuc, ◌+ℤ◌, ◌-ℤ◌, ◌*ℤ◌}
+use lib.IntN.{ℤ, pos, ◌+ℤ◌, ◌*ℤ◌}
 use lib.Signed.{◌≤ℤ◌}
 use Rattle.flow_net.specs.Numbers.{item_at, IsNumberOf}
 use Rattle.flow_net.specs.Nested.{IsNested}
 use Rattle.flow_net.specs.declared.net.Net.{Net}
-use Rattle.ipet_program.specs.Leaves.{IsLeaf, IsSigned, Shows, ShowsBound, FitsBound, FitsValues, FitFrom, all_rows, column_parts, right_parts, total as total_of, value_at}
+use Rattle.ipet_program.specs.Leaves.{IsLeaf, IsSigned, Shows, FitsBound, FitFrom, all_rows, column_parts, right_parts, total as total_of, value_at}
 use Rattle.ipet_program.specs.Programs.{IsProgramOf}
 use Rattle.ipet_program.specs.Rows.{one_if, rows_of}
 use Rattle.ipet_program.specs.declared.leaf.Leaf.{Leaf}
@@ -19,7 +19,7 @@ use Rattle.nest_solver.specs.Nets.{HasDepths, HasHeaders, shape_of, holds_of, va
 use Rattle.nest_solver.specs.Shape.{Shape, IsNest, IsUpTo, target, is_back}
 use Rattle.nest_solver.specs.Solved.{paid, weight_of, IsDual}
 use Rattle.nest_solver.specs.Counted.{bit, returns}
-use Rattle.nest_solver.specs.LeafWeights.{multiplier, weights_to, IsLeafOf, AreSmall}
+use Rattle.nest_solver.specs.LeafWeights.{multiplier, IsLeafOf, AreSmall}
 use Rattle.nest_solver.proofs.Weak.{given, given-back}
 use Rattle.nest_solver.proofs.Sums.{sum-none}
 use Rattle.nest_solver.proofs.Arcs.{back-of}
@@ -91,13 +91,12 @@ module _ (net : Net) (price : ℕ → ℕ) (program : Program) (depths headed tu
     (nested : IsNested net) (has : HasDepths net depths) (heads : HasHeaders net headed)
     (is : IsProgramOf net price program)
     (dual : IsDual (shape_of net depths headed)
-        (weight_of (shape_of net depths headed) (value_at_end (shape_of net depths headed) price) turns) turns depth worth)
+    (weight_of (shape_of net depths headed) (value_at_end (shape_of net depths headed) price) turns) turns depth worth)
     (low : (l : ℕ) → IsUpTo (length net.loops) l → depths l ≤ depth)
     (shown : total + worth 0
-        ≡ weight_of (shape_of net depths headed) (value_at_end (shape_of net depths headed) price) turns 1
-        + worth ((shape_of net depths headed).to 1))
+    ≡ weight_of (shape_of net depths headed) (value_at_end (shape_of net depths headed) price) turns 1
+    + worth ((shape_of net depths headed).to 1))
     (small : AreSmall (shape_of net depths headed) total worth turns) where
-
   abbrev s : Shape
   s = shape_of net depths headed
 
@@ -115,7 +114,7 @@ module _ (net : Net) (price : ℕ → ℕ) (program : Program) (depths headed tu
 
   value-pays : (j : ℕ) → IsUpTo (length net.arcs) j →
       value_at_end (shape_of net depths headed) price j + paid (shape_of net depths headed) turns j
-          + worth ((shape_of net depths headed).to j)
+      + worth ((shape_of net depths headed).to j)
       ≤ total * bit (j == 1) + worth ((shape_of net depths headed).from j) + given (shape_of net depths headed) turns j
   value-pays j u =
       column-pays (shape_of net depths headed) (value_at_end (shape_of net depths headed) price) turns worth depth total j
@@ -174,11 +173,11 @@ module _ (net : Net) (price : ℕ → ℕ) (program : Program) (depths headed tu
 pub leaf-shows : (net : Net) (price : ℕ → ℕ) (program : Program) (depths headed turns worth : ℕ → ℕ) (depth total : ℕ)
     (leaf : Leaf) → IsNested net → HasDepths net depths → HasHeaders net headed → IsProgramOf net price program →
     IsDual (shape_of net depths headed)
-        (weight_of (shape_of net depths headed) (value_at_end (shape_of net depths headed) price) turns) turns depth worth →
+    (weight_of (shape_of net depths headed) (value_at_end (shape_of net depths headed) price) turns) turns depth worth →
     ((l : ℕ) → IsUpTo (length net.loops) l → depths l ≤ depth) →
     total + worth 0
-        ≡ weight_of (shape_of net depths headed) (value_at_end (shape_of net depths headed) price) turns 1
-        + worth ((shape_of net depths headed).to 1) →
+    ≡ weight_of (shape_of net depths headed) (value_at_end (shape_of net depths headed) price) turns 1
+    + worth ((shape_of net depths headed).to 1) →
     AreSmall (shape_of net depths headed) total worth turns →
     IsLeafOf (shape_of net depths headed) total worth turns leaf → IsLeaf program [] total leaf
 leaf-shows net price program depths headed turns worth depth total leaf nested has heads is dual low shown small of_leaf =

@@ -1,40 +1,21 @@
 -- The multipliers of worths and turns give each column its value.
-use Rattle.std.proofs.Common.{◌≡◌, ◌⊎◌, ℕ, zero, suc, ◌+◌, ◌-◌, ◌*◌, ◌^◌, ◌<◌, ◌≤◌, ◌==◌, ◌&&◌, nat_le, not, Bool, true, false, cond, List, [], ◌∷◌, ◌++◌, length, map, flat_map, All, Option, Some, None, refl, sym, ap, ap₂, ◌∙◌, subst, inl, inr, arith, nat_abs, FitsSigned, append-nil, mul-le-mul, mul-le-mul_left, true≢false}
-use Rattle.std.specs.Int.{w128}
-use Rattle.std.proofs.lemmas.Bool.{cases_eq, cases_lt, cases_Bool}
+use Rattle.std.proofs.Common.{◌≡◌, ℕ, zero, suc, ◌+◌, ◌-◌, ◌*◌, ◌<◌, ◌≤◌, ◌==◌, nat_le, cond, sym, ap, ap₂, ◌∙◌, subst, inl, inr, arith}
+use Rattle.std.proofs.lemmas.Bool.{cases_eq, cases_lt}
 use Rattle.std.proofs.lemmas.Bool.Decides.{nat_tests}
-use Rattle.std.proofs.lemmas.Int.{ints, fits_signed_from_abs}
-use Rattle.std.proofs.lemmas.Option.{same_Some}
+use Rattle.std.proofs.lemmas.Int.{ints}
 use borrow.Author.Differences.{up, down}
-use lib.IntN.{ℤ, pos, negsuc, ◌+ℤ◌, ◌-ℤ◌, ◌*ℤ◌}
-use lib.Signed.{◌≤ℤ◌}
-use Rattle.flow_net.specs.Numbers.{item_at, IsNumberOf}
-use Rattle.flow_net.specs.Nested.{IsNested}
-use Rattle.flow_net.specs.declared.net.LoopInst.{LoopInst}
-use Rattle.flow_net.specs.declared.net.Net.{Net}
-use Rattle.flow_net.proofs.Numbers.{item_at-within}
-use Rattle.ipet_program.specs.Leaves.{IsLeaf, IsSigned, Shows, ShowsBound, FitsBound, FitsValues, FitFrom, all_rows, cut_row, column_parts, parts_in, right_part, right_parts, total as total_of, value_at}
-use Rattle.ipet_program.specs.Programs.{IsProgramOf}
-use Rattle.ipet_program.specs.Rows.{one_if, terms_of, entry_row, place_factor, place_row, loop_factor, loop_row, loop_row_of, rows_of}
-use Rattle.ipet_program.specs.Sums.{sum_to, numbered}
-use Rattle.ipet_program.specs.declared.leaf.Leaf.{Leaf}
-use Rattle.ipet_program.specs.declared.leaf.Weight.{Weight}
-use Rattle.ipet_program.specs.declared.program.Program.{Program}
-use Rattle.ipet_program.specs.declared.program.Row.{Row}
-use Rattle.ipet_program.proofs.Totals.{total_to, total_to-same, total_to-one}
-use Rattle.nest_solver.specs.Nets.{HasDepths, HasHeaders, shape_of, holds_of, value_at_end}
-use Rattle.nest_solver.specs.Shape.{Shape, IsNest, IsUpTo, target}
+use lib.IntN.{ℤ, pos, ◌+ℤ◌, ◌-ℤ◌, ◌*ℤ◌}
+use Rattle.ipet_program.specs.Rows.{one_if}
+use Rattle.ipet_program.specs.Sums.{sum_to}
+use Rattle.ipet_program.proofs.Totals.{total_to, total_to-same}
+use Rattle.nest_solver.specs.Shape.{Shape, IsNest, IsUpTo}
 use Rattle.nest_solver.specs.Solved.{paid, weight_of, IsDual}
 use Rattle.nest_solver.specs.Counted.{bit, enters, returns}
-use Rattle.nest_solver.specs.LeafWeights.{multiplier, weights_to, IsLeafOf}
-use Rattle.nest_solver.proofs.Sums.{sum-same, sum-le, sum-add, sum-scale, sum-none, sum-only}
-use Rattle.nest_solver.proofs.Times.{bit_same, bit_other}
+use Rattle.nest_solver.specs.LeafWeights.{multiplier}
+use Rattle.nest_solver.proofs.Sums.{sum-same, sum-add, sum-scale}
+use Rattle.nest_solver.proofs.Times.{bit_other}
 use Rattle.nest_solver.proofs.Counting.{comes, goes, goes_in, split-arc, paid-sum}
 use Rattle.nest_solver.proofs.Weak.{spread, given, arc-pays}
-use Rattle.nest_solver.proofs.Few.{one_most}
-use Rattle.nest_solver.proofs.NetShape.{shape-nest, loop-at}
-use Rattle.nest_solver.proofs.Rows.{holds-same, row-place, row-loop, place-factor, loop-factor, value-table}
-use Rattle.nest_solver.proofs.Listed.{abs-sum, abs-product, size, fit-size, terms-total, terms-size, weights-total, weights-size, weights-all}
 
 -- ---- Sums over the rows: the first, those of places, those of loops.
 total-behind : (a b : ℕ) (f : ℕ → ℤ) → total_to (a + b) f ≡ total_to a f +ℤ total_to b (λ i. f (a + i))
@@ -69,9 +50,9 @@ pub total-rows : (places loops : ℕ) (f : ℕ → ℤ) →
 total-rows places loops f =
     total-behind (places + 1) loops f
     ∙ ap₂ (λ (y z : ℤ). y +ℤ z)
-        (ap (λ (n : ℕ). total_to n f) (let e : places + 1 ≡ suc places = omega arith in e) ∙ total-first places f)
-        (total_to-same (λ l. f (places + 1 + l)) (λ l. f (suc (places + l))) loops
-        (λ l low high. ap f (let e : places + 1 + l ≡ suc (places + l) = omega arith in e)))
+    (ap (λ (n : ℕ). total_to n f) (let e : places + 1 ≡ suc places = omega arith in e) ∙ total-first places f)
+    (total_to-same (λ l. f (places + 1 + l)) (λ l. f (suc (places + l))) loops
+    (λ l low high. ap f (let e : places + 1 + l ≡ suc (places + l) = omega arith in e)))
 
 pub sum-rows : (places loops : ℕ) (f : ℕ → ℕ) →
     sum_to (places + 1 + loops) f
@@ -79,9 +60,9 @@ pub sum-rows : (places loops : ℕ) (f : ℕ → ℕ) →
 sum-rows places loops f =
     sum-behind (places + 1) loops f
     ∙ ap₂ (λ a b. a + b)
-        (ap (λ (n : ℕ). sum_to n f) (let e : places + 1 ≡ suc places = omega arith in e) ∙ sum-first places f)
-        (sum-same loops (λ l. f (places + 1 + l)) (λ l. f (suc (places + l)))
-        (λ l u. ap f (let e : places + 1 + l ≡ suc (places + l) = omega arith in e)))
+    (ap (λ (n : ℕ). sum_to n f) (let e : places + 1 ≡ suc places = omega arith in e) ∙ sum-first places f)
+    (sum-same loops (λ l. f (places + 1 + l)) (λ l. f (suc (places + l)))
+    (λ l u. ap f (let e : places + 1 + l ≡ suc (places + l) = omega arith in e)))
 
 -- Which row a number is.
 pub data IsRowOf (places loops : ℕ) : ℕ → Type 0 where
@@ -278,22 +259,22 @@ loops-column s turns j nest =
 pub column-total : (s : Shape) (total : ℕ) (worth turns : ℕ → ℕ) (j : ℕ) → IsNest s → IsUpTo s.arcs j →
     total_to (s.places + 1 + s.loops) (λ row. multiplier s total worth turns row *ℤ factor_at s j row)
     ≡ (pos total *ℤ one_if (j == 1) +ℤ (pos (worth (s.from j)) -ℤ pos (worth (s.to j))))
-        +ℤ (pos (given s turns j) -ℤ pos (paid s turns j))
+    +ℤ (pos (given s turns j) -ℤ pos (paid s turns j))
 column-total s total worth turns j nest u =
     total-rows s.places s.loops (λ row. multiplier s total worth turns row *ℤ factor_at s j row)
     ∙ ap₂ (λ (y z : ℤ). (pos total *ℤ one_if (j == 1) +ℤ y) +ℤ z)
-        (total_to-same
-        (λ p. multiplier s total worth turns (suc p) *ℤ factor_at s j (suc p))
-        (λ p. (pos (worth 0) -ℤ pos (worth p)) *ℤ place_fac s j p) s.places
-        (λ p low high. ap₂ (λ (y z : ℤ). y *ℤ z) (mult-place s total worth turns p (low, high))
-        (factor-at_place s j p (low, high)))
-        ∙ places-column s worth j nest u)
-        (total_to-same
-        (λ l. multiplier s total worth turns (suc (s.places + l)) *ℤ factor_at s j (suc (s.places + l)))
-        (λ l. pos (turns l) *ℤ loop_fac s j l) s.loops
-        (λ l low high. ap₂ (λ (y z : ℤ). y *ℤ z) (mult-loop s total worth turns l (low, high))
-        (factor-at_loop s j l (low, high)))
-        ∙ loops-column s turns j nest)
+    (total_to-same
+    (λ p. multiplier s total worth turns (suc p) *ℤ factor_at s j (suc p))
+    (λ p. (pos (worth 0) -ℤ pos (worth p)) *ℤ place_fac s j p) s.places
+    (λ p low high. ap₂ (λ (y z : ℤ). y *ℤ z) (mult-place s total worth turns p (low, high))
+    (factor-at_place s j p (low, high)))
+    ∙ places-column s worth j nest u)
+    (total_to-same
+    (λ l. multiplier s total worth turns (suc (s.places + l)) *ℤ factor_at s j (suc (s.places + l)))
+    (λ l. pos (turns l) *ℤ loop_fac s j l) s.loops
+    (λ l low high. ap₂ (λ (y z : ℤ). y *ℤ z) (mult-loop s total worth turns l (low, high))
+    (factor-at_loop s j l (low, high)))
+    ∙ loops-column s turns j nest)
 
 -- Each column gets its value.
 pub column-pays : (s : Shape) (value turns worth : ℕ → ℕ) (depth total j : ℕ) → IsNest s →
@@ -307,11 +288,11 @@ column-pays s value turns worth depth total j nest dual low is u =
           ≤ total * bit (k == 1) + worth (s.from k) + given s turns k) (sym e)
           (omega (arith, is, ap worth nest.first))
       | inr other ↦
-        let some : bit (s.from j == 0) ≡ 0 = bit_other (s.from j) 0 (λ e. other (nest.only j u e)) in
-        omega (
-          arith,
-          arc-pays s (weight_of s value turns) turns worth depth j nest dual low u,
-          ap (λ b. b * worth 0) some,
-          ap (λ b. b * (weight_of s value turns j + worth (s.to j))) some,
-        )
+          let some : bit (s.from j == 0) ≡ 0 = bit_other (s.from j) 0 (λ e. other (nest.only j u e)) in
+          omega (
+            arith,
+            arc-pays s (weight_of s value turns) turns worth depth j nest dual low u,
+            ap (λ b. b * worth 0) some,
+            ap (λ b. b * (weight_of s value turns j + worth (s.to j))) some,
+          )
     ]

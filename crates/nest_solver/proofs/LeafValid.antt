@@ -1,44 +1,39 @@
 -- What the rows of a net's program give to columns and to the right side, by the multipliers of worths and turns.
-use Rattle.std.proofs.Common.{◌≡◌, ◌⊎◌, ℕ, zero, suc, ◌+◌, ◌-◌, ◌*◌, ◌^◌, ◌<◌, ◌≤◌, ◌==◌, ◌&&◌, not, Bool, true, false, cond, List, [], ◌∷◌, ◌++◌, length, map, flat_map, All, Option, Some, None, refl, sym, ap, ap₂, ◌∙◌, subst, inl, inr, arith, nat_abs, FitsSigned, append-nil, mul-le-mul, mul-le-mul_left, mul-le-mul_right, true≢false}
-use Rattle.std.specs.Int.{w128}
-use Rattle.std.proofs.lemmas.Bool.{cases_eq, cases_lt, cases_Bool}
-use Rattle.std.proofs.lemmas.Bool.Decides.{nat_tests}
-use Rattle.std.proofs.lemmas.Int.{ints, fits_signed_from_abs}
-use lib.IntN.{ℤ, pos, negsuc, ◌+ℤ◌, ◌-ℤ◌, ◌*ℤ◌}
+use Rattle.std.proofs.Common.{◌≡◌, ◌⊎◌, ℕ, suc, ◌+◌, ◌*◌, ◌^◌, ◌<◌, ◌≤◌, ◌==◌, ◌&&◌, not, Bool, true, false, List, [], ◌∷◌, length, Option, Some, refl, sym, ap, ap₂, ◌∙◌, subst, inl, inr, arith, nat_abs, mul-le-mul, mul-le-mul_left, true≢false}
+use Rattle.std.proofs.lemmas.Bool.{cases_eq, ne_eqb}
+use Rattle.std.proofs.lemmas.Int.{ints}
+use lib.IntN.{ℤ, pos, ◌+ℤ◌, ◌-ℤ◌, ◌*ℤ◌}
 use lib.Signed.{◌≤ℤ◌}
 use Rattle.flow_net.specs.Numbers.{item_at, IsNumberOf}
-use Rattle.flow_net.specs.Nested.{IsNested}
 use Rattle.flow_net.specs.declared.net.LoopInst.{LoopInst}
 use Rattle.flow_net.specs.declared.net.Net.{Net}
 use Rattle.flow_net.proofs.Numbers.{item_at-within}
-use Rattle.ipet_program.specs.Leaves.{IsLeaf, IsSigned, Shows, ShowsBound, FitsBound, FitsValues, FitFrom, all_rows, column_parts, parts_in, right_part, right_parts, total as total_of, value_at}
-use Rattle.ipet_program.specs.Programs.{IsProgramOf}
+use Rattle.ipet_program.specs.Leaves.{IsSigned, FitFrom, column_parts, parts_in, right_part, right_parts, total as total_of}
 use Rattle.ipet_program.specs.Rows.{one_if, entry_row, place_factor, place_row, loop_factor, loop_row, loop_row_of, rows_of}
 use Rattle.ipet_program.specs.Sums.{sum_to}
-use Rattle.ipet_program.specs.declared.leaf.Leaf.{Leaf}
 use Rattle.ipet_program.specs.declared.leaf.Weight.{Weight}
-use Rattle.ipet_program.specs.declared.program.Program.{Program}
 use Rattle.ipet_program.specs.declared.program.Row.{Row}
-use Rattle.ipet_program.proofs.Totals.{total_to, total_to-same, total_to-one}
-use Rattle.nest_solver.specs.Nets.{HasDepths, HasHeaders, shape_of, holds_of, value_at_end}
+use Rattle.ipet_program.proofs.Totals.{total_to-one}
+use Rattle.nest_solver.specs.Nets.{shape_of, holds_of}
 use Rattle.nest_solver.specs.Shape.{Shape, IsNest, IsUpTo, target}
-use Rattle.nest_solver.specs.Solved.{paid, weight_of, IsDual}
-use Rattle.nest_solver.specs.Counted.{bit, enters, returns}
-use Rattle.nest_solver.specs.LeafWeights.{multiplier, weights_to, IsLeafOf, AreSmall}
-use Rattle.nest_solver.proofs.Sums.{sum-same, sum-le, sum-add, sum-scale, sum-none, sum-only}
+use Rattle.nest_solver.specs.Solved.{paid}
+use Rattle.nest_solver.specs.Counted.{bit}
+use Rattle.nest_solver.specs.LeafWeights.{multiplier, weights_to, AreSmall}
+use Rattle.nest_solver.proofs.Sums.{sum-le, sum-add, sum-scale, sum-only}
 use Rattle.nest_solver.proofs.Times.{bit_same, bit_other}
 use Rattle.nest_solver.proofs.Arcs.{target-is}
 use Rattle.nest_solver.proofs.Counting.{comes, goes, goes_in}
 use Rattle.nest_solver.proofs.Few.{one_most}
-use Rattle.nest_solver.proofs.NetShape.{shape-nest, loop-at}
-use Rattle.nest_solver.proofs.Rows.{holds-same, row-place, row-loop, place-factor, loop-factor, value-table}
-use Rattle.nest_solver.proofs.Listed.{abs-sum, abs-product, size, fit-size, terms-total, terms-size, weights-total, weights-size, weights-all}
-use Rattle.nest_solver.proofs.LeafShown.{IsRowOf, row-of, sum-rows, mult-place, mult-loop, place_fac, loop_fac, factor_at, factor-at_place, factor-at_loop, column-total, column-pays}
+use Rattle.nest_solver.proofs.NetShape.{loop-at}
+use Rattle.nest_solver.proofs.Rows.{row-place, row-loop, place-factor, loop-factor}
+use Rattle.nest_solver.proofs.Listed.{abs-product, size, fit-size, terms-total, terms-size, weights-total, weights-size}
+use Rattle.nest_solver.proofs.LeafShown.{IsRowOf, row-of, sum-rows, mult-place, mult-loop, place_fac, loop_fac, factor_at, factor-at_place, factor-at_loop, column-total}
 use Rattle.nest_solver.proofs.LeafShown.IsRowOf.{first, place, loop}
+use Rattle.ipet_program.specs.Scopes.{bound_of}
+use Rattle.nest_solver.proofs.Weak.{given}
 
 -- ---- What a row gives to a column.
 module _ (net : Net) (depths headed : ℕ → ℕ) where
-
   abbrev s : Shape
   s = shape_of net depths headed
 
@@ -64,12 +59,12 @@ module _ (net : Net) (depths headed : ℕ → ℕ) where
   loop-given times j l u v = let found = loop-at net l v in
       ap (λ (row : Option Row). total_of (parts_in j times row)) (loop-row l found.item found.there v)
       ∙ terms-total times (loop_factor net.arcs (holds_of net l) found.item) (length net.arcs) j
-          (loop_row_of net.arcs (holds_of net l) (Some found.item)) refl u
+      (loop_row_of net.arcs (holds_of net l) (Some found.item)) refl u
       ∙ ap (λ (z : ℤ). times *ℤ z)
-          (loop-factor net depths headed found.item l j found.there u
-          ∙ ap (λ (b : ℕ). pos (comes s (s.header l) j) -ℤ pos (b * goes_in s l j))
-              (sym (ap Rattle.ipet_program.specs.Scopes.bound_of found.there))
-          ∙ sym (factor-at_loop s j l v))
+      (loop-factor net depths headed found.item l j found.there u
+      ∙ ap (λ (b : ℕ). pos (comes s (s.header l) j) -ℤ pos (b * goes_in s l j))
+      (sym (ap bound_of found.there))
+      ∙ sym (factor-at_loop s j l v))
 
   row-given : (times : ℤ) (j row : ℕ) → IsUpTo (length net.arcs) j →
       IsRowOf (length net.places) (length net.loops) row →
@@ -100,7 +95,7 @@ module _ (net : Net) (depths headed : ℕ → ℕ) where
       ≤ nat_abs (times *ℤ z))
       (loop-factor net depths headed found.item l j found.there u
       ∙ ap (λ (b : ℕ). pos (comes s (s.header l) j) -ℤ pos (b * goes_in s l j))
-          (sym (ap Rattle.ipet_program.specs.Scopes.bound_of found.there))
+      (sym (ap bound_of found.there))
       ∙ sym (factor-at_loop s j l v))
       (terms-size times (loop_factor net.arcs (holds_of net l) found.item) (length net.arcs) j
       (loop_row_of net.arcs (holds_of net l) (Some found.item)) refl u))
@@ -122,13 +117,13 @@ module _ (net : Net) (depths headed : ℕ → ℕ) where
       ∙ ap (λ (z : ℤ). (times *ℤ z) ∷ []) (sym (other (suc p) (omega (arith, v))))
     where
       other : (row : ℕ) → 1 < row → one_if (row == 1) ≡ pos 0
-      other row less = ap one_if (Rattle.std.proofs.lemmas.Bool.ne_eqb row 1 (λ e. omega (arith, e, less)))
+      other row less = ap one_if (ne_eqb row 1 (λ e. omega (arith, e, less)))
   right-given times _ (loop l v) = let found = loop-at net l v in
       ap (right_part times) (loop-row l found.item found.there v)
       ∙ ap (λ (z : ℤ). (times *ℤ z) ∷ []) (sym (other (suc (length net.places + l)) (omega (arith, v))))
     where
       other : (row : ℕ) → 1 < row → one_if (row == 1) ≡ pos 0
-      other row less = ap one_if (Rattle.std.proofs.lemmas.Bool.ne_eqb row 1 (λ e. omega (arith, e, less)))
+      other row less = ap one_if (ne_eqb row 1 (λ e. omega (arith, e, less)))
 
   pub row-there : (row : ℕ) → IsRowOf (length net.places) (length net.loops) row → IsNumberOf rows row
   row-there _ first = item_at-within rows 1 (entry_row (length net.arcs)) refl
@@ -240,7 +235,7 @@ module _ (net : Net) (depths headed : ℕ → ℕ) where
   pub shown-column : (total : ℕ) (worth turns : ℕ → ℕ) (j : ℕ) → IsNest s → IsUpTo (length net.arcs) j →
       total_of (column_parts rows (weights total worth turns) j)
       ≡ (pos total *ℤ one_if (j == 1) +ℤ (pos (worth (s.from j)) -ℤ pos (worth (s.to j))))
-          +ℤ (pos (Rattle.nest_solver.proofs.Weak.given s turns j) -ℤ pos (paid s turns j))
+      +ℤ (pos (given s turns j) -ℤ pos (paid s turns j))
   shown-column total worth turns j nest u =
       weights-total (λ (weight : Weight). parts_in j weight.times (item_at weight.row rows))
       (multiplier s total worth turns) (factor_at s j) (s.places + 1 + s.loops)
@@ -273,9 +268,9 @@ module _ (net : Net) (depths headed : ℕ → ℕ) where
       (λ row v. ap total_of (right-given (multiplier s total worth turns row) row (row-of s.places s.loops row v))
       ∙ part_one (multiplier s total worth turns row *ℤ one_if (row == 1)))
       ∙ total_to-one (λ row. multiplier s total worth turns row *ℤ one_if (row == 1)) (s.places + 1 + s.loops) 1
-          (omega arith) (omega arith)
-          (λ row differ. ap (λ (t : Bool). multiplier s total worth turns row *ℤ one_if t)
-          (Rattle.std.proofs.lemmas.Bool.ne_eqb row 1 differ) ∙ omega (arith, ints))
+      (omega arith) (omega arith)
+      (λ row differ. ap (λ (t : Bool). multiplier s total worth turns row *ℤ one_if t)
+      (ne_eqb row 1 differ) ∙ omega (arith, ints))
       ∙ omega (arith, ints)
 
   pub right-size : (total : ℕ) (worth turns : ℕ → ℕ) →
@@ -301,7 +296,7 @@ module _ (net : Net) (depths headed : ℕ → ℕ) where
             | inr differ ↦ omega (
               arith,
               ap (λ (t : Bool). nat_abs (multiplier s total worth turns row *ℤ one_if t))
-                  (Rattle.std.proofs.lemmas.Bool.ne_eqb row 1 differ),
+                  (ne_eqb row 1 differ),
               none (multiplier s total worth turns row),
             )
           ]

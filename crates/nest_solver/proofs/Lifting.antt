@@ -1,8 +1,8 @@
 -- Raised by the loops of one depth more, the worths take that depth's back arcs too.
-use Rattle.std.proofs.Common.{◌≡◌, ◌⊎◌, ℕ, zero, suc, ◌+◌, ◌-◌, ◌<◌, ◌≤◌, ◌&&◌, nat_lt, cond, max, Bool, true, false, refl, sym, ap, ◌∙◌, subst, inl, inr, arith, true≢false}
+use Rattle.std.proofs.Common.{◌≡◌, ◌⊎◌, ℕ, suc, ◌+◌, ◌-◌, ◌<◌, ◌≤◌, true, false, refl, sym, ap, ◌∙◌, subst, inl, inr, arith, true≢false}
 use Rattle.std.proofs.lemmas.Bool.{cases_Bool, cases_lt}
 use Rattle.nest_solver.specs.Shape.{Shape, IsNest, IsUpTo, target, is_back}
-use Rattle.nest_solver.specs.Ways.{IsRound, IsSwept, closes, goes_on, reach}
+use Rattle.nest_solver.specs.Ways.{IsRound, IsSwept}
 use Rattle.nest_solver.specs.Solved.{IsDual, lifted}
 use Rattle.nest_solver.proofs.Arcs.{IsBackOf, back-of, closes-back, goes_on-in}
 use Rattle.nest_solver.proofs.Solving.{reach-closes, reach-goes}
@@ -121,21 +121,21 @@ back_by s weight turns worth depth round best choice nest dual rounds swept i l 
         ap turns t,
       )
       | inr high ↦
-        let is : round (s.from i) ≡ l = rounds.all l (s.from i) back.up (omega (arith, low, high)) back.source in
-        let ends = closes-back s (suc depth) i (omega (arith, back.header, nest.headers l back.up)) e
-        (ap s.depth t ∙ omega (arith, low, high)) in
-        let one = reach-closes s (suc depth) round best i ends in
-        let more = swept.closed i u (omega (arith, one)) in
-        omega (
-          arith,
-          same,
-          one,
-          more,
-          lifted-in s round best turns worth (s.from i) (omega (arith, is, back.up)) (omega (arith, one, more)),
-          ap turns is,
-          ap (λ k. worth (s.header k)) is,
-          ap worth back.header,
-        )
+          let is : round (s.from i) ≡ l = rounds.all l (s.from i) back.up (omega (arith, low, high)) back.source in
+          let ends = closes-back s (suc depth) i (omega (arith, back.header, nest.headers l back.up)) e
+          (ap s.depth t ∙ omega (arith, low, high)) in
+          let one = reach-closes s (suc depth) round best i ends in
+          let more = swept.closed i u (omega (arith, one)) in
+          omega (
+            arith,
+            same,
+            one,
+            more,
+            lifted-in s round best turns worth (s.from i) (omega (arith, is, back.up)) (omega (arith, one, more)),
+            ap turns is,
+            ap (λ k. worth (s.header k)) is,
+            ap worth back.header,
+          )
     ]
 
 pub lift-dual : (s : Shape) (weight turns worth : ℕ → ℕ) (depth : ℕ) (round best choice : ℕ → ℕ) → IsNest s →
@@ -146,16 +146,16 @@ pub lift-dual : (s : Shape) (weight turns worth : ℕ → ℕ) (depth : ℕ) (ro
 lift-dual s weight turns worth depth round best choice nest dual rounds swept turned =
     record {
       forward = λ i u low forward. elim (raised-cases s (suc depth) round best turns worth rounds (s.to i))
-      as (λ _. weight i + lifted s round best turns worth (s.to i) ≤ lifted s round best turns worth (s.from i)) [
-        | inl same ↦ omega (
-          arith,
-          same,
-          dual.forward i u low forward,
-          lifted-more s round best turns worth (s.from i),
-        )
-        | inr up ↦ forward_by s weight turns worth depth round best choice nest dual rounds swept turned i u low
-            forward up
-      ];
+          as (λ _. weight i + lifted s round best turns worth (s.to i) ≤ lifted s round best turns worth (s.from i)) [
+            | inl same ↦ omega (
+              arith,
+              same,
+              dual.forward i u low forward,
+              lifted-more s round best turns worth (s.from i),
+            )
+            | inr up ↦ forward_by s weight turns worth depth round best choice nest dual rounds swept turned i u low
+                forward up
+          ];
       back = λ i u e low. let back = back-of s nest i e in
           back_by s weight turns worth depth round best choice nest dual rounds swept i (target s i) u e refl back low
           (back_same s (suc depth) round best turns worth nest rounds turned i (target s i) back low);

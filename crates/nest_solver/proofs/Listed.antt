@@ -1,14 +1,12 @@
 -- What listed multipliers give to a column and to the right side.
-use Rattle.std.proofs.Common.{◌≡◌, ◌⊎◌, ℕ, zero, suc, ◌+◌, ◌-◌, ◌*◌, ◌^◌, ◌<◌, ◌≤◌, ◌==◌, Bool, true, false, cond, List, [], ◌∷◌, ◌++◌, map, filter, flat_map, All, Option, Some, None, refl, sym, ap, ap₂, ◌∙◌, subst, inl, inr, arith, nat_abs, FitsSigned, append-nil}
+use Rattle.std.proofs.Common.{◌≡◌, ℕ, zero, suc, ◌+◌, ◌*◌, ◌^◌, ◌<◌, ◌≤◌, ◌==◌, List, [], ◌∷◌, ◌++◌, map, filter, flat_map, All, Some, refl, sym, ap, ap₂, ◌∙◌, subst, inl, inr, arith, nat_abs, FitsSigned, append-nil}
 use Rattle.std.specs.Int.{w128}
 use Rattle.std.proofs.lemmas.Bool.{cases_eq, cond-true, cond-false, eq-eqb, ne_eqb}
-use Rattle.std.proofs.lemmas.Bool.Decides.{nat_tests}
 use Rattle.std.proofs.lemmas.Int.{ints, fits_signed_from_abs}
 use Rattle.std.proofs.lemmas.Grind.{flat_map-append}
 use Rattle.std.proofs.lemmas.List.Elements.{filter-append, All-append, All-nil, All-cons}
-use lib.IntN.{ℤ, pos, negsuc, ◌+ℤ◌, ◌-ℤ◌, ◌*ℤ◌}
-use Rattle.flow_net.specs.Numbers.{item_at}
-use Rattle.ipet_program.specs.Leaves.{column_parts, parts_in, right_part, right_parts, total, FitFrom}
+use lib.IntN.{ℤ, pos, negsuc, ◌+ℤ◌, ◌*ℤ◌}
+use Rattle.ipet_program.specs.Leaves.{parts_in, total, FitFrom}
 use Rattle.ipet_program.specs.Rows.{term_of, terms_of}
 use Rattle.ipet_program.specs.Sums.{sum_to}
 use Rattle.ipet_program.specs.declared.leaf.Weight.{Weight}
@@ -81,7 +79,7 @@ filter_above factor zero j less = refl
 filter_above factor (suc n) j less =
     filter-append (λ (term : Term). term.column == j) (terms_of factor n) (term_of (suc n) (factor (suc n)))
     ∙ ap₂ (λ (a b : List Term). a ++ b) (filter_above factor n j (omega (arith, less)))
-        (filter_none (suc n) j (factor (suc n)) (λ e. omega (arith, e, less)))
+    (filter_none (suc n) j (factor (suc n)) (λ e. omega (arith, e, less)))
 
 filter-terms : (factor : ℕ → ℤ) (n j : ℕ) → IsUpTo n j →
     filter (λ (term : Term). term.column == j) (terms_of factor n) ≡ term_of j (factor j)
@@ -89,17 +87,17 @@ filter-terms factor zero j u = absurd (omega (arith, u))
 filter-terms factor (suc n) j u =
     filter-append (λ (term : Term). term.column == j) (terms_of factor n) (term_of (suc n) (factor (suc n)))
     ∙ elim (cases_eq j (suc n))
-      as (λ _. filter (λ (term : Term). term.column == j) (terms_of factor n)
-          ++ filter (λ (term : Term). term.column == j) (term_of (suc n) (factor (suc n))) ≡ term_of j (factor j)) [
-        | inl e ↦ subst (λ (k : ℕ). filter (λ (term : Term). term.column == k) (terms_of factor n)
-            ++ filter (λ (term : Term). term.column == k) (term_of (suc n) (factor (suc n))) ≡ term_of k (factor k))
-            (sym e)
-            (ap₂ (λ (a b : List Term). a ++ b) (filter_above factor n (suc n) (omega arith))
-            (filter_here (suc n) (factor (suc n))))
-        | inr differ ↦ ap₂ (λ (a b : List Term). a ++ b) (filter-terms factor n j (omega (arith, u, differ)))
-            (filter_none (suc n) j (factor (suc n)) (λ e. differ (sym e)))
-            ∙ append-nil (term_of j (factor j))
-      ]
+    as (λ _. filter (λ (term : Term). term.column == j) (terms_of factor n)
+    ++ filter (λ (term : Term). term.column == j) (term_of (suc n) (factor (suc n))) ≡ term_of j (factor j)) [
+      | inl e ↦ subst (λ (k : ℕ). filter (λ (term : Term). term.column == k) (terms_of factor n)
+          ++ filter (λ (term : Term). term.column == k) (term_of (suc n) (factor (suc n))) ≡ term_of k (factor k))
+          (sym e)
+          (ap₂ (λ (a b : List Term). a ++ b) (filter_above factor n (suc n) (omega arith))
+          (filter_here (suc n) (factor (suc n))))
+      | inr differ ↦ ap₂ (λ (a b : List Term). a ++ b) (filter-terms factor n j (omega (arith, u, differ)))
+          (filter_none (suc n) j (factor (suc n)) (λ e. differ (sym e)))
+          ∙ append-nil (term_of j (factor j))
+    ]
 
 one_total : (times : ℤ) (column : ℕ) (z : ℤ) →
     total (map (λ (term : Term). times *ℤ term.factor) (term_of column z)) ≡ times *ℤ z
@@ -150,7 +148,7 @@ weights-total f times factor (suc n) h =
     ap total (flat_map-append f (weights_to times n) (weight_at (suc n) (times (suc n))))
     ∙ total-append (flat_map f (weights_to times n)) (flat_map f (weight_at (suc n) (times (suc n))))
     ∙ ap₂ (λ (a b : ℤ). a +ℤ b) (weights-total f times factor n (λ row u. h row (up_more n row u)))
-        (one_weight f (suc n) (times (suc n)) (factor (suc n)) (h (suc n) (up_last n)))
+    (one_weight f (suc n) (times (suc n)) (factor (suc n)) (h (suc n) (up_last n)))
 
 one_weight_size : (f : Weight → List ℤ) (row : ℕ) (times : ℤ) (most : ℕ) → size (f (weight_of_row row times)) ≤ most →
     size (flat_map f (weight_at row times)) ≤ most

@@ -1,6 +1,6 @@
 -- The plain tables of a nested net are a nest.
-use Rattle.std.proofs.Common.{◌≡◌, ◌⊎◌, ◌↔◌, ℕ, zero, suc, ◌+◌, ◌<◌, ◌≤◌, ◌==◌, nat_lt, cond, Bool, true, false, List, [], ◌∷◌, length, All, Option, Some, None, refl, sym, ap, ◌∙◌, subst, inl, inr, arith, true≢false}
-use Rattle.std.proofs.lemmas.Bool.{cases_eq, cases_Bool, cases_lt, cases_order}
+use Rattle.std.proofs.Common.{◌≡◌, ◌⊎◌, ◌↔◌, ℕ, ◌+◌, ◌<◌, ◌≤◌, ◌==◌, nat_lt, cond, true, false, List, [], ◌∷◌, length, Option, Some, None, refl, sym, ap, ◌∙◌, subst, inl, inr, arith, true≢false}
+use Rattle.std.proofs.lemmas.Bool.{cases_Bool, cases_lt, cases_order}
 use Rattle.std.proofs.lemmas.Bool.Decides.{nat_tests}
 use Rattle.flow_net.specs.Numbers.{item_at, IsNumberOf, IsNumberOrZero}
 use Rattle.flow_net.specs.Scopes.{IsWithin, Holds, HasScopes}
@@ -14,7 +14,7 @@ use Rattle.flow_net.specs.declared.net.NetArc.{NetArc}
 use Rattle.flow_net.specs.declared.net.Place.{Place}
 use Rattle.flow_net.proofs.Numbers.{item_at-there, item_at-all, item_at-within}
 use Rattle.flow_net.proofs.Chains.{within-zero, around, around-outward}
-use Rattle.flow_net.proofs.Holds.{holds-place, holds-line, holds-through}
+use Rattle.flow_net.proofs.Holds.{holds-line, holds-through}
 use Rattle.flow_net.proofs.Headers.{header-scope}
 use Rattle.ipet_program.specs.Scopes.{bound_of, TellsHeld}
 use Rattle.nest_solver.specs.Nets.{HasDepths, HasHeaders, AreUp, shape_of, holds_of, source_of, header_of, scope_of, round_by}
@@ -53,7 +53,7 @@ up_of items number item e = let within = item_at-within items number item e in (
 -- Ways need no back arcs: who is in a loop came by its header.
 ahead_header : (s : Shape) → ((l : ℕ) → s.holds l 0 ≡ false) → s.from 1 ≡ 0 → 1 ≤ s.arcs →
     ((i l : ℕ) → IsUpTo s.arcs i → IsUpTo s.loops l → s.holds l (s.from i) ≡ false →
-        s.holds l (s.to i) ≡ true → s.to i ≡ s.header l) →
+    s.holds l (s.to i) ≡ true → s.to i ≡ s.header l) →
     (l : ℕ) → IsUpTo s.loops l → (p : ℕ) → IsAhead s p → s.holds l p ≡ true → IsAhead s (s.header l)
 ahead_header s outside first some entering l u _ start held =
     subst (IsAhead s) (entering 1 l (omega (arith, some)) u
@@ -66,7 +66,6 @@ ahead_header s outside first some entering l u _ (along i v low forward before) 
 
 module _ (net : Net) (nested : IsNested net) (depth headed : ℕ → ℕ) (depths : HasDepths net depth)
     (headers : HasHeaders net headed) where
-
   abbrev s : Shape
   s = shape_of net depth headed
 
@@ -141,8 +140,8 @@ module _ (net : Net) (nested : IsNested net) (depth headed : ℕ → ℕ) (depth
       let loop = loop-at net l v in
       arc_to i arc.item arc.there
       ∙ nested.entering i l arc.item loop.item arc.there loop.there
-          (subst (Holds net l) (arc_to i arc.item arc.there) ((told l (s.to i)).0 in_loop))
-          (λ held. told_not l (s.from i) out_of (subst (Holds net l) (sym (arc_from i arc.item arc.there)) held))
+      (subst (Holds net l) (arc_to i arc.item arc.there) ((told l (s.to i)).0 in_loop))
+      (λ held. told_not l (s.from i) out_of (subst (Holds net l) (sym (arc_from i arc.item arc.there)) held))
       ∙ sym (loop_header l loop.item loop.there)
 
   own_by : (l k : ℕ) → IsUpTo s.loops l → IsUpTo s.loops k → s.holds k (s.header l) ≡ true →
@@ -312,10 +311,10 @@ up_found net depths depth up are has outer _ inst there deep here =
 up_found net depths depth up are has outer _ inst there deep (out scope below at w) =
     are.outward scope below at
     ∙ up_next (depths scope) depth scope (up below.outer)
-        (elim (within-deeper net depths outer below.outer has w) as (λ _. depth < depths scope) [
-          | inl same ↦ omega (arith, ap depths same, deep, has.outward scope below at)
-          | inr less ↦ omega (arith, less, deep, has.outward scope below at)
-        ])
+    (elim (within-deeper net depths outer below.outer has w) as (λ _. depth < depths scope) [
+      | inl same ↦ omega (arith, ap depths same, deep, has.outward scope below at)
+      | inr less ↦ omega (arith, less, deep, has.outward scope below at)
+    ])
     ∙ up_found net depths depth up are has outer below.outer inst there deep w
 
 -- What is found is a scope of the depth round the scope.
@@ -335,15 +334,19 @@ up_right net depths depth up are has _ (out scope inst there w) some =
         IsFound net depths depth (up scope) scope
     by next (inl e) =
         let is : up scope ≡ scope = are.outward scope inst there
-            ∙ up_same (depths scope) depth scope (up inst.outer) e in
+        ∙ up_same (depths scope) depth scope (up inst.outer) e in
         subst (λ (n : ℕ). IsFound net depths depth n scope) (sym is)
         (record { up = up_of net.loops scope inst there; deep = e; within = here })
     by next (inr (inl less)) =
-        absurd (omega (arith, some, are.outward scope inst there,
-        up_none (depths scope) depth scope (up inst.outer) less))
+        absurd (omega (
+          arith,
+          some,
+          are.outward scope inst there,
+          up_none (depths scope) depth scope (up inst.outer) less,
+        ))
     by next (inr (inr less)) =
         let is : up scope ≡ up inst.outer = are.outward scope inst there
-            ∙ up_next (depths scope) depth scope (up inst.outer) less in
+        ∙ up_next (depths scope) depth scope (up inst.outer) less in
         let found = next (omega (arith, some, is)) in
         subst (λ (n : ℕ). IsFound net depths depth n scope) (sym is)
         (record { up = found.up; deep = found.deep; within = out scope inst there found.within })
@@ -358,8 +361,7 @@ round_here net depths headed depth up nested has are p (Some place) e some =
     let inside : IsWithin net.loops 0 place.scope =
     within-zero net.loops nested.scopes.loops nested.scopes.chains place.scope
     (item_at-all (λ q. IsNumberOrZero net.loops q.scope) net.places p place nested.scopes.places e) in
-    let found = up_right net depths depth up are has place.scope inside some in
-    (
+    let found = up_right net depths depth up are has place.scope inside some in (
       found.up,
       found.deep,
       (held-told net nested (up place.scope) p).1

@@ -1,5 +1,5 @@
 -- Places that carry the turns of the loops that begin there cost no more than the loops let them grow.
-use Rattle.std.proofs.Common.{◌≡◌, ◌⊎◌, ℕ, zero, suc, ◌+◌, ◌-◌, ◌*◌, ◌<◌, ◌≤◌, ◌==◌, ◌&&◌, nat_lt, cond, Bool, true, false, refl, sym, ap, ap₂, ◌∙◌, subst, inl, inr, arith, mul-le-mul_left, mul-le-mul, true≢false}
+use Rattle.std.proofs.Common.{◌≡◌, ◌⊎◌, ℕ, suc, ◌+◌, ◌-◌, ◌*◌, ◌<◌, ◌≤◌, ◌==◌, ◌&&◌, nat_lt, Bool, true, false, refl, sym, ap, ◌∙◌, inl, inr, arith, mul-le-mul_left}
 use Rattle.std.proofs.lemmas.Bool.{cases_eq, cases_lt, cases_Bool}
 use Rattle.std.proofs.lemmas.Bool.Decides.{nat_tests}
 use Rattle.ipet_program.specs.Sums.{sum_to}
@@ -70,11 +70,11 @@ extra_split : (a : Bool) (depth deep : ℕ) →
     bit (a && nat_lt depth deep) ≡ bit (a && nat_lt (suc depth) deep) + bit (a && (deep == suc depth))
 extra_split true depth deep = elim (cases_lt depth deep)
     as (λ _. bit (true && nat_lt depth deep)
-        ≡ bit (true && nat_lt (suc depth) deep) + bit (true && (deep == suc depth))) [
+    ≡ bit (true && nat_lt (suc depth) deep) + bit (true && (deep == suc depth))) [
       | inr low ↦ grind (arith, nat_tests)
       | inl high ↦ elim (cases_eq deep (suc depth))
           as (λ _. bit (true && nat_lt depth deep)
-              ≡ bit (true && nat_lt (suc depth) deep) + bit (true && (deep == suc depth))) [
+          ≡ bit (true && nat_lt (suc depth) deep) + bit (true && (deep == suc depth))) [
             | inl e ↦ grind (arith, nat_tests)
             | inr n ↦ grind (arith, nat_tests)
           ]
@@ -90,10 +90,10 @@ extra-level : (s : Shape) (turns : ℕ → ℕ) (depth p : ℕ) →
 extra-level s turns depth p =
     sum-same s.loops (λ l. bit ((s.header l == p) && nat_lt depth (s.depth l)) * carried s turns l)
     (λ l. bit ((s.header l == p) && nat_lt (suc depth) (s.depth l)) * carried s turns l
-        + bit ((s.header l == p) && (s.depth l == suc depth)) * carried s turns l)
+    + bit ((s.header l == p) && (s.depth l == suc depth)) * carried s turns l)
     (λ l u. ap (λ b. b * carried s turns l) (extra_split (s.header l == p) depth (s.depth l)) ∙ omega arith)
     ∙ sum-add s.loops (λ l. bit ((s.header l == p) && nat_lt (suc depth) (s.depth l)) * carried s turns l)
-        (λ l. bit ((s.header l == p) && (s.depth l == suc depth)) * carried s turns l)
+    (λ l. bit ((s.header l == p) && (s.depth l == suc depth)) * carried s turns l)
 
 -- What the headers of a set carry for the loops of that depth.
 bit_at : (h p : ℕ) (b : Bool) → (p ≡ h → ⊥) → bit ((h == p) && b) ≡ 0
@@ -113,12 +113,12 @@ carried-in s turns depth set nest =
     (λ p u. sym (sum-scale s.loops (bit (set p))
     (λ l. bit ((s.header l == p) && (s.depth l == suc depth)) * carried s turns l)))
     ∙ sum-swap s.places s.loops
-        (λ p l. bit (set p) * (bit ((s.header l == p) && (s.depth l == suc depth)) * carried s turns l))
+    (λ p l. bit (set p) * (bit ((s.header l == p) && (s.depth l == suc depth)) * carried s turns l))
     ∙ sum-same s.loops
-        (λ l. sum_to s.places
-        (λ p. bit (set p) * (bit ((s.header l == p) && (s.depth l == suc depth)) * carried s turns l)))
-        (λ l. bit (set (s.header l)) * (bit (s.depth l == suc depth) * carried s turns l))
-        one
+    (λ l. sum_to s.places
+    (λ p. bit (set p) * (bit ((s.header l == p) && (s.depth l == suc depth)) * carried s turns l)))
+    (λ l. bit (set (s.header l)) * (bit (s.depth l == suc depth) * carried s turns l))
+    one
   where
     one : (l : ℕ) → IsUpTo s.loops l →
         sum_to s.places (λ p. bit (set p) * (bit ((s.header l == p) && (s.depth l == suc depth)) * carried s turns l))
@@ -135,20 +135,20 @@ grown-in : (s : Shape) (price : ℕ → ℕ) (depth : ℕ) (round : ℕ → ℕ)
     IsRound s (suc depth) round →
     sum_in s set (λ p. price p * grown s depth p)
     ≡ sum_in s set (λ p. price p * grown s (suc depth) p)
-        + sum_to s.loops (λ l. (s.bound l - 1) * sum_to s.places
-        (λ p. bit (set p) * (bit (s.holds l p && (s.depth l == suc depth)) * (price p * grown s (suc depth) p))))
+    + sum_to s.loops (λ l. (s.bound l - 1) * sum_to s.places
+    (λ p. bit (set p) * (bit (s.holds l p && (s.depth l == suc depth)) * (price p * grown s (suc depth) p))))
 grown-in s price depth round set nest rounds =
     sum-same s.places (λ p. bit (set p) * (price p * grown s depth p))
     (λ p. bit (set p) * g p + sum_to s.loops (λ l. part p l))
     (λ p u. one p)
     ∙ sum-add s.places (λ p. bit (set p) * g p) (λ p. sum_to s.loops (λ l. part p l))
     ∙ ap (λ n. sum_in s set g + n)
-        (sum-swap s.places s.loops part
-        ∙ sum-same s.loops (λ l. sum_to s.places (λ p. part p l))
-            (λ l. (s.bound l - 1) * sum_to s.places
-            (λ p. bit (set p) * (bit (s.holds l p && (s.depth l == suc depth)) * g p)))
-            (λ l u. sum-scale s.places (s.bound l - 1)
-            (λ p. bit (set p) * (bit (s.holds l p && (s.depth l == suc depth)) * g p))))
+    (sum-swap s.places s.loops part
+    ∙ sum-same s.loops (λ l. sum_to s.places (λ p. part p l))
+    (λ l. (s.bound l - 1) * sum_to s.places
+    (λ p. bit (set p) * (bit (s.holds l p && (s.depth l == suc depth)) * g p)))
+    (λ l u. sum-scale s.places (s.bound l - 1)
+    (λ p. bit (set p) * (bit (s.holds l p && (s.depth l == suc depth)) * g p))))
   where
     g : ℕ → ℕ
     g p = price p * grown s (suc depth) p
@@ -166,20 +166,20 @@ grown-in s price depth round set nest rounds =
     one p =
         ap (λ n. bit (set p) * (price p * n)) (grown-level s depth p round nest rounds)
         ∙ spread (bit (set p)) (price p) (grown s (suc depth) p)
-            (sum_to s.loops (λ l. bit (s.holds l p && (s.depth l == suc depth)) * (s.bound l - 1)))
+        (sum_to s.loops (λ l. bit (s.holds l p && (s.depth l == suc depth)) * (s.bound l - 1)))
         ∙ ap (λ n. bit (set p) * g p + n)
-            (sym (sum-scale s.loops (bit (set p) * g p)
-            (λ l. bit (s.holds l p && (s.depth l == suc depth)) * (s.bound l - 1)))
-            ∙ sum-same s.loops
-                (λ l. (bit (set p) * g p) * (bit (s.holds l p && (s.depth l == suc depth)) * (s.bound l - 1)))
-                (λ l. part p l)
-                (λ l u. turn (bit (set p)) (g p) (bit (s.holds l p && (s.depth l == suc depth))) (s.bound l - 1)))
+        (sym (sum-scale s.loops (bit (set p) * g p)
+        (λ l. bit (s.holds l p && (s.depth l == suc depth)) * (s.bound l - 1)))
+        ∙ sum-same s.loops
+        (λ l. (bit (set p) * g p) * (bit (s.holds l p && (s.depth l == suc depth)) * (s.bound l - 1)))
+        (λ l. part p l)
+        (λ l u. turn (bit (set p)) (g p) (bit (s.holds l p && (s.depth l == suc depth))) (s.bound l - 1)))
 
 -- Where each loop of that depth turns at no more than its places come to, a depth less is covered too.
 pub covers-level : (s : Shape) (price turns : ℕ → ℕ) (depth : ℕ) (round : ℕ → ℕ) (set : ℕ → Bool) → IsNest s →
     IsRound s (suc depth) round → Takes s depth set → Covers s price turns (suc depth) set →
     ((l : ℕ) → IsUpTo s.loops l → s.depth l ≡ suc depth →
-        turns l ≤ sum_in s (s.holds l) (λ p. price p * grown s (suc depth) p)) →
+    turns l ≤ sum_in s (s.holds l) (λ p. price p * grown s (suc depth) p)) →
     Covers s price turns depth set
 covers-level s price turns depth round set nest rounds takes covers small =
     omega (
@@ -217,14 +217,14 @@ covers-level s price turns depth round set nest rounds takes covers small =
     one : (l : ℕ) → IsUpTo s.loops l →
         bit (set (s.header l)) * (bit (s.depth l == suc depth) * carried s turns l)
         ≤ (s.bound l - 1) * sum_to s.places
-            (λ p. bit (set p) * (bit (s.holds l p && (s.depth l == suc depth)) * (price p * grown s (suc depth) p)))
+        (λ p. bit (set p) * (bit (s.holds l p && (s.depth l == suc depth)) * (price p * grown s (suc depth) p)))
     one l u = by (cases_Bool (set (s.header l))) (cases_eq (s.depth l) (suc depth))
       where
         by : (set (s.header l) ≡ true) ⊎ (set (s.header l) ≡ false) →
             (s.depth l ≡ suc depth) ⊎ (s.depth l ≡ suc depth → ⊥) →
             bit (set (s.header l)) * (bit (s.depth l == suc depth) * carried s turns l)
             ≤ (s.bound l - 1) * sum_to s.places
-                (λ p. bit (set p) * (bit (s.holds l p && (s.depth l == suc depth)) * (price p * grown s (suc depth) p)))
+            (λ p. bit (set p) * (bit (s.holds l p && (s.depth l == suc depth)) * (price p * grown s (suc depth) p)))
         by (inr out) d = omega (arith, ap (λ b. bit b * (bit (s.depth l == suc depth) * carried s turns l)) out)
         by (inl has) (inr other) = omega (
           arith,

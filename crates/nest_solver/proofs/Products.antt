@@ -1,6 +1,6 @@
 -- Products over the numbers from 1 up to a number.
-use Rattle.std.proofs.Common.{◌≡◌, ◌⊎◌, ℕ, zero, suc, ◌+◌, ◌-◌, ◌*◌, ◌<◌, ◌≤◌, ◌==◌, ◌&&◌, nat_lt, cond, Bool, true, false, refl, sym, ap, ap₂, ◌∙◌, subst, inl, inr, arith, mul-le-mul, true≢false}
-use Rattle.std.proofs.lemmas.Bool.{cases_eq, cases_lt, cases_Bool}
+use Rattle.std.proofs.Common.{◌≡◌, ◌⊎◌, ℕ, zero, suc, ◌+◌, ◌-◌, ◌*◌, ◌<◌, ◌≤◌, ◌==◌, ◌&&◌, nat_lt, cond, Bool, true, false, refl, sym, ap, ap₂, ◌∙◌, inl, inr, arith, mul-le-mul}
+use Rattle.std.proofs.lemmas.Bool.{cases_eq, cases_lt}
 use Rattle.std.proofs.lemmas.Bool.Decides.{nat_tests}
 use Rattle.ipet_program.specs.Sums.{sum_to, product_to}
 use Rattle.nest_solver.specs.Shape.{Shape, IsNest, IsUpTo}
@@ -55,11 +55,11 @@ factor_split : (h : Bool) (deep depth b : ℕ) →
     cond (h && nat_lt depth deep) b 1 ≡ cond (h && nat_lt (suc depth) deep) b 1 * cond (h && (deep == suc depth)) b 1
 factor_split true deep depth b = elim (cases_lt depth deep)
     as (λ _. cond (true && nat_lt depth deep) b 1
-        ≡ cond (true && nat_lt (suc depth) deep) b 1 * cond (true && (deep == suc depth)) b 1) [
+    ≡ cond (true && nat_lt (suc depth) deep) b 1 * cond (true && (deep == suc depth)) b 1) [
       | inr low ↦ grind (arith, nat_tests)
       | inl high ↦ elim (cases_eq deep (suc depth))
           as (λ _. cond (true && nat_lt depth deep) b 1
-              ≡ cond (true && nat_lt (suc depth) deep) b 1 * cond (true && (deep == suc depth)) b 1) [
+          ≡ cond (true && nat_lt (suc depth) deep) b 1 * cond (true && (deep == suc depth)) b 1) [
             | inl e ↦ grind (arith, nat_tests)
             | inr n ↦ grind (arith, nat_tests)
           ]
@@ -100,7 +100,7 @@ grown-level s depth p round nest rounds =
     (λ l. cond (s.holds l p && nat_lt (suc depth) (s.depth l)) (s.bound l) 1 * one_bound s (suc depth) p l)
     (λ l u. factor_split (s.holds l p) (s.depth l) depth (s.bound l))
     ∙ product-times s.loops (λ l. cond (s.holds l p && nat_lt (suc depth) (s.depth l)) (s.bound l) 1)
-        (one_bound s (suc depth) p)
+    (one_bound s (suc depth) p)
     ∙ ap (λ n. grown s (suc depth) p * n) (by (cases_lt 0 (round p)))
   where
     parts : ℕ → ℕ
@@ -115,20 +115,20 @@ grown-level s depth p round nest rounds =
         (only_round s (suc depth) round p l rounds u differ))
         ∙ one_here (s.holds (round p) p) (s.depth (round p)) (suc depth) (s.bound (round p)) here.2 here.1
         ∙ sym (ap (λ n. 1 + n)
-            (sum-only s.loops (round p) (λ l. bit (s.holds l p && (s.depth l == suc depth)) * (s.bound l - 1)) here.0
-            (λ l u differ. ap (λ b. b * (s.bound l - 1)) (bit_not (s.holds l p) (s.depth l) (suc depth)
-            (only_round s (suc depth) round p l rounds u differ)) ∙ omega arith)
-            ∙ ap (λ b. b * (s.bound (round p) - 1))
-                (bit_here (s.holds (round p) p) (s.depth (round p)) (suc depth) here.2 here.1))
-            ∙ omega (arith, nest.bounds (round p) here.0))
+        (sum-only s.loops (round p) (λ l. bit (s.holds l p && (s.depth l == suc depth)) * (s.bound l - 1)) here.0
+        (λ l u differ. ap (λ b. b * (s.bound l - 1)) (bit_not (s.holds l p) (s.depth l) (suc depth)
+        (only_round s (suc depth) round p l rounds u differ)) ∙ omega arith)
+        ∙ ap (λ b. b * (s.bound (round p) - 1))
+        (bit_here (s.holds (round p) p) (s.depth (round p)) (suc depth) here.2 here.1))
+        ∙ omega (arith, nest.bounds (round p) here.0))
     by (inr none) =
         product-ones s.loops (one_bound s (suc depth) p)
         (λ l u. one_not (s.holds l p) (s.depth l) (suc depth) (s.bound l)
         (only_round s (suc depth) round p l rounds u (λ e. omega (arith, e, u, none))))
         ∙ sym (ap (λ n. 1 + n)
-            (sum-none s.loops (λ l. bit (s.holds l p && (s.depth l == suc depth)) * (s.bound l - 1))
-            (λ l u. ap (λ b. b * (s.bound l - 1)) (bit_not (s.holds l p) (s.depth l) (suc depth)
-            (only_round s (suc depth) round p l rounds u (λ e. omega (arith, e, u, none)))) ∙ omega arith)))
+        (sum-none s.loops (λ l. bit (s.holds l p && (s.depth l == suc depth)) * (s.bound l - 1))
+        (λ l u. ap (λ b. b * (s.bound l - 1)) (bit_not (s.holds l p) (s.depth l) (suc depth)
+        (only_round s (suc depth) round p l rounds u (λ e. omega (arith, e, u, none)))) ∙ omega arith)))
 
 grown_factor : (h : Bool) (deep depth b : ℕ) → 1 ≤ b → cond (h && nat_lt depth deep) b 1 ≤ cond (h && nat_lt 0 deep) b 1
 grown_factor true deep depth b some = grind (arith, nat_tests)

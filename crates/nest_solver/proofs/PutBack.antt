@@ -1,18 +1,12 @@
 -- The turns of one depth more are put back: the counts are again those of a way out and of turns.
-use Rattle.std.proofs.Common.{◌≡◌, ◌⊎◌, ℕ, zero, suc, ◌+◌, ◌-◌, ◌*◌, ◌<◌, ◌≤◌, ◌==◌, cond, Bool, true, false, List, [], ◌∷◌, sum_by, refl, sym, ap, ap₂, ◌∙◌, subst, inl, inr, arith, mul-le-mul_left, mul-le-mul_right}
+use Rattle.std.proofs.Common.{◌≡◌, ◌⊎◌, ℕ, suc, ◌+◌, ◌-◌, ◌*◌, ◌≤◌, ◌==◌, cond, List, [], sum_by, refl, sym, ap, ◌∙◌, subst, inl, inr, arith}
 use Rattle.std.proofs.lemmas.Bool.{cases_eq, cases_lt}
 use Rattle.std.proofs.lemmas.Bool.Decides.{nat_tests}
-use Rattle.std.proofs.lemmas.List.Sums.{sum_by-cons}
-use Rattle.ipet_program.specs.Sums.{sum_to}
 use Rattle.nest_solver.specs.Shape.{Shape, IsNest, IsUpTo}
-use Rattle.nest_solver.specs.Ways.{IsWay}
-use Rattle.nest_solver.specs.Solved.{weight_of}
-use Rattle.nest_solver.specs.Counted.{bit, times, enters, entered, added, IsCounted, IsPath, IsTurn, AreWays, put_back, with_ways}
-use Rattle.nest_solver.proofs.Sums.{sum-same, sum-le, sum-add, sum-none, sum-part}
-use Rattle.nest_solver.proofs.Arcs.{goes_on-out}
-use Rattle.nest_solver.proofs.Times.{Each, bit_same, bit_other, dot-added, dot-counted}
-use Rattle.nest_solver.proofs.Along.{way_in, way-sum, way-enters, stays-out, stays-turn, in-header}
-use Rattle.nest_solver.proofs.Counting.{Keeps, comes, counted-keeps, counted-value_most, each-way, ways-in, path-in}
+use Rattle.nest_solver.specs.Counted.{bit, times, enters, entered, added, IsCounted, IsTurn, AreWays, put_back, with_ways}
+use Rattle.nest_solver.proofs.Sums.{sum-same, sum-add, sum-none}
+use Rattle.nest_solver.proofs.Times.{Each, dot-added}
+use Rattle.nest_solver.proofs.Along.{way_in, way-enters, stays-turn, in-header}
 
 -- With the way out alone no loop is put back.
 pub counted-start : (s : Shape) (path : List ℕ) (counts : ℕ → ℕ) →
@@ -57,13 +51,13 @@ pub ways-level : (s : Shape) (weight turns : ℕ → ℕ) (depth : ℕ) (ways tu
 ways-level s weight turns depth ways turned are turn =
     record {
       done = λ l u low. elim (cases_eq (s.depth l) (suc depth))
-      as (λ _. ((with_ways s (suc depth) ways turned l ≡ []) × (turns l ≡ 0))
-      ⊎ IsTurn s weight l (turns l) (with_ways s (suc depth) ways turned l)) [
-        | inl e ↦ subst (λ (ks : List ℕ). ((ks ≡ []) × (turns l ≡ 0)) ⊎ IsTurn s weight l (turns l) ks)
-            (sym (with_here s (suc depth) ways turned l e)) (turn.here l u e)
-        | inr n ↦ subst (λ (ks : List ℕ). ((ks ≡ []) × (turns l ≡ 0)) ⊎ IsTurn s weight l (turns l) ks)
-            (sym (with_other s (suc depth) ways turned l n)) (are.done l u (omega (arith, low, n)))
-      ];
+          as (λ _. ((with_ways s (suc depth) ways turned l ≡ []) × (turns l ≡ 0))
+          ⊎ IsTurn s weight l (turns l) (with_ways s (suc depth) ways turned l)) [
+            | inl e ↦ subst (λ (ks : List ℕ). ((ks ≡ []) × (turns l ≡ 0)) ⊎ IsTurn s weight l (turns l) ks)
+                (sym (with_here s (suc depth) ways turned l e)) (turn.here l u e)
+            | inr n ↦ subst (λ (ks : List ℕ). ((ks ≡ []) × (turns l ≡ 0)) ⊎ IsTurn s weight l (turns l) ks)
+                (sym (with_other s (suc depth) ways turned l n)) (are.done l u (omega (arith, low, n)))
+          ];
       later = λ l u deep. with_other s (suc depth) ways turned l (λ e. omega (arith, e, deep))
           ∙ are.later l u (omega (arith, deep));
     }
@@ -119,33 +113,33 @@ entered-same s weight turns depth turned often counts nest are l low =
 level-one : (s : Shape) (weight turns : ℕ → ℕ) (depth : ℕ) (ways turned : ℕ → List ℕ) (counts : ℕ → ℕ) → IsNest s →
     AreWays s weight turns depth ways → AreTurned s weight turns (suc depth) turned → (i l : ℕ) → IsUpTo s.loops l →
     ((s.bound l - 1) * entered s (put_back s (entered s counts) turned counts) l)
-        * times (with_ways s (suc depth) ways turned l) i
+    * times (with_ways s (suc depth) ways turned l) i
     ≡ ((s.bound l - 1) * entered s counts l) * times (ways l) i
-        + ((s.bound l - 1) * entered s counts l) * times (turned l) i
+    + ((s.bound l - 1) * entered s counts l) * times (turned l) i
 level-one s weight turns depth ways turned counts nest are turn i l u =
     elim (cases_lt (suc depth) (s.depth l))
     as (λ _. ((s.bound l - 1) * new) * times (with_ways s (suc depth) ways turned l) i
-        ≡ ((s.bound l - 1) * old) * times (ways l) i + ((s.bound l - 1) * old) * times (turned l) i) [
+    ≡ ((s.bound l - 1) * old) * times (ways l) i + ((s.bound l - 1) * old) * times (turned l) i) [
       | inl deep ↦
-        let other : s.depth l ≡ suc depth → ⊥ = λ e. omega (arith, e, deep) in
-        let first = are.later l u (omega (arith, deep)) in
-        no_way ((s.bound l - 1) * new) ((s.bound l - 1) * old)
-        (ap (λ (ks : List ℕ). times ks i) (with_other s (suc depth) ways turned l other ∙ first))
-        (ap (λ (ks : List ℕ). times ks i) first)
-        (ap (λ (ks : List ℕ). times ks i) (turn.none l u other))
+          let other : s.depth l ≡ suc depth → ⊥ = λ e. omega (arith, e, deep) in
+          let first = are.later l u (omega (arith, deep)) in
+          no_way ((s.bound l - 1) * new) ((s.bound l - 1) * old)
+          (ap (λ (ks : List ℕ). times ks i) (with_other s (suc depth) ways turned l other ∙ first))
+          (ap (λ (ks : List ℕ). times ks i) first)
+          (ap (λ (ks : List ℕ). times ks i) (turn.none l u other))
       | inr low ↦
-        let same = ap (λ n. (s.bound l - 1) * n)
-        (entered-same s weight turns (suc depth) turned (entered s counts) counts nest turn l low) in
-        elim (cases_eq (s.depth l) (suc depth))
-        as (λ _. ((s.bound l - 1) * new) * times (with_ways s (suc depth) ways turned l) i
-            ≡ ((s.bound l - 1) * old) * times (ways l) i + ((s.bound l - 1) * old) * times (turned l) i) [
-          | inl e ↦ one_way ((s.bound l - 1) * new) ((s.bound l - 1) * old) same
-              (ap (λ (ks : List ℕ). times ks i) (with_here s (suc depth) ways turned l e))
-              (ap (λ (ks : List ℕ). times ks i) (are.later l u (omega (arith, e))))
-          | inr n ↦ other_way ((s.bound l - 1) * new) ((s.bound l - 1) * old) same
-              (ap (λ (ks : List ℕ). times ks i) (with_other s (suc depth) ways turned l n))
-              (ap (λ (ks : List ℕ). times ks i) (turn.none l u n))
-        ]
+          let same = ap (λ n. (s.bound l - 1) * n)
+          (entered-same s weight turns (suc depth) turned (entered s counts) counts nest turn l low) in
+          elim (cases_eq (s.depth l) (suc depth))
+          as (λ _. ((s.bound l - 1) * new) * times (with_ways s (suc depth) ways turned l) i
+          ≡ ((s.bound l - 1) * old) * times (ways l) i + ((s.bound l - 1) * old) * times (turned l) i) [
+            | inl e ↦ one_way ((s.bound l - 1) * new) ((s.bound l - 1) * old) same
+                (ap (λ (ks : List ℕ). times ks i) (with_here s (suc depth) ways turned l e))
+                (ap (λ (ks : List ℕ). times ks i) (are.later l u (omega (arith, e))))
+            | inr n ↦ other_way ((s.bound l - 1) * new) ((s.bound l - 1) * old) same
+                (ap (λ (ks : List ℕ). times ks i) (with_other s (suc depth) ways turned l n))
+                (ap (λ (ks : List ℕ). times ks i) (turn.none l u n))
+          ]
     ]
   where
     new : ℕ

@@ -1,12 +1,11 @@
 -- One loop after the other: its turn is put back, and there is room for it.
-use Rattle.std.proofs.Common.{◌≡◌, ◌⊎◌, ℕ, zero, suc, ◌+◌, ◌-◌, ◌*◌, ◌<◌, ◌≤◌, ◌==◌, nat_lt, cond, Bool, true, false, List, [], ◌∷◌, sum_by, refl, sym, ap, ap₂, ◌∙◌, subst, inl, inr, arith, mul-le-mul_left}
+use Rattle.std.proofs.Common.{◌≡◌, ◌⊎◌, ℕ, suc, ◌+◌, ◌-◌, ◌*◌, ◌<◌, ◌≤◌, ◌==◌, nat_lt, cond, List, [], ◌∷◌, refl, sym, ap, ◌∙◌, subst, inl, inr, arith, mul-le-mul_left}
 use Rattle.std.proofs.lemmas.Bool.{cases_eq, cases_lt, cond-true, cond-false, eq-eqb, ne_eqb, lt-ltb, le-ltb}
-use Rattle.ipet_program.specs.Sums.{sum_to}
 use Rattle.nest_solver.specs.Shape.{Shape, IsNest, IsUpTo}
 use Rattle.nest_solver.specs.Solved.{weight_of, IsSolved}
 use Rattle.nest_solver.specs.Ways.{IsWay}
-use Rattle.nest_solver.specs.Counted.{bit, times, enters, entered, added, IsCounted, IsPath, IsTurn, AreWays, put_back, with_ways}
-use Rattle.nest_solver.specs.Putting.{IsPutting}
+use Rattle.nest_solver.specs.Counted.{bit, times, enters, entered, added, IsCounted, IsPath, IsTurn, put_back, with_ways}
+use Rattle.nest_solver.specs.Putting.{IsPutting, IsCountedTo, HasRoomFor}
 use Rattle.nest_solver.proofs.Sums.{sum-same, sum-le, sum-add, sum-only, sum-none}
 use Rattle.nest_solver.proofs.Times.{bit_same, bit_other}
 use Rattle.nest_solver.proofs.PutBack.{AreTurned, ways-level, counted-level}
@@ -45,9 +44,9 @@ added-one s often ways k ks i u empty =
     (λ l. m l * times (ways l) i + bit (l == k) * (m l * times ks i)) (λ l v. one l)
     ∙ sum-add s.loops (λ l. m l * times (ways l) i) (λ l. bit (l == k) * (m l * times ks i))
     ∙ ap (λ n. added s often ways i + n)
-        (sum-only s.loops k (λ l. bit (l == k) * (m l * times ks i)) u
-        (λ l v n. ap (λ b. b * (m l * times ks i)) (bit_other l k n) ∙ omega arith)
-        ∙ ap (λ b. b * (m k * times ks i)) (bit_same k k refl) ∙ omega arith)
+    (sum-only s.loops k (λ l. bit (l == k) * (m l * times ks i)) u
+    (λ l v n. ap (λ b. b * (m l * times ks i)) (bit_other l k n) ∙ omega arith)
+    ∙ ap (λ b. b * (m k * times ks i)) (bit_same k k refl) ∙ omega arith)
   where
     m : ℕ → ℕ
     m l = (s.bound l - 1) * often l
@@ -73,7 +72,7 @@ pub putting-more : (s : Shape) (weight turns start counts more : ℕ → ℕ) (d
     IsPutting s weight turns start depth k counts → IsUpTo s.loops k → s.depth k ≡ depth →
     (((ks ≡ []) × (turns k ≡ 0)) ⊎ IsTurn s weight k (turns k) ks) →
     ((i : ℕ) → IsUpTo s.arcs i →
-        more i ≡ counts i + ((s.bound k - 1) * entered s start k) * times ks i) →
+    more i ≡ counts i + ((s.bound k - 1) * entered s start k) * times ks i) →
     next < k → ((l : ℕ) → IsUpTo s.loops l → s.depth l ≡ depth → next < l → l < k → ⊥) →
     IsPutting s weight turns start depth next more
 putting-more s weight turns start counts more depth k next ks putting u deep turn is less between =
@@ -81,7 +80,7 @@ putting-more s weight turns start counts more depth k next ks putting u deep tur
       turned = with_one k ks putting.turned;
       done = λ l v e above. elim (cases_eq l k)
           as (λ _. ((with_one k ks putting.turned l ≡ []) × (turns l ≡ 0))
-              ⊎ IsTurn s weight l (turns l) (with_one k ks putting.turned l)) [
+          ⊎ IsTurn s weight l (turns l) (with_one k ks putting.turned l)) [
             | inl same ↦ subst (λ (j : ℕ). ((with_one k ks putting.turned j ≡ []) × (turns j ≡ 0))
                 ⊎ IsTurn s weight j (turns j) (with_one k ks putting.turned j)) (sym same)
                 (subst (λ (way : List ℕ). ((way ≡ []) × (turns k ≡ 0)) ⊎ IsTurn s weight k (turns k) way)
@@ -123,17 +122,11 @@ counted-same s path ways one other same counted i u =
     sym (same i u)
     ∙ counted i u
     ∙ ap (λ n. times path i + n)
-        (sum-same s.loops (λ l. ((s.bound l - 1) * entered s one l) * times (ways l) i)
-        (λ l. ((s.bound l - 1) * entered s other l) * times (ways l) i)
-        (λ l v. ap (λ n. ((s.bound l - 1) * n) * times (ways l) i)
-        (sum-same s.arcs (λ j. bit (enters s l j) * one j) (λ j. bit (enters s l j) * other j)
-        (λ j w. ap (λ n. bit (enters s l j) * n) (same j w)))))
-
--- The level's counts, as those of a way out and of turns.
-pub record IsCountedTo (s : Shape) (weight turns : ℕ → ℕ) (path : List ℕ) (depth : ℕ) (counts : ℕ → ℕ) : Type 0 where
-  pub ways : ℕ → List ℕ
-  pub are : AreWays s weight turns depth ways
-  pub counted : IsCounted s path ways counts
+    (sum-same s.loops (λ l. ((s.bound l - 1) * entered s one l) * times (ways l) i)
+    (λ l. ((s.bound l - 1) * entered s other l) * times (ways l) i)
+    (λ l v. ap (λ n. ((s.bound l - 1) * n) * times (ways l) i)
+    (sum-same s.arcs (λ j. bit (enters s l j) * one j) (λ j. bit (enters s l j) * other j)
+    (λ j w. ap (λ n. bit (enters s l j) * n) (same j w)))))
 
 pub counted-next : (s : Shape) (weight turns start counts : ℕ → ℕ) (depth : ℕ) (path : List ℕ) → IsNest s →
     IsCountedTo s weight turns path depth start → IsPutting s weight turns start (suc depth) 0 counts →
@@ -167,7 +160,7 @@ all-turned s value turns start counts depth at nest solved putting turn =
     record {
       here = λ l u e. elim (cases_lt at l)
           as (λ _. ((all_turned at putting.turned (λ j. (turn j).way) l ≡ []) × (turns l ≡ 0))
-              ⊎ IsTurn s (weight_of s value turns) l (turns l) (all_turned at putting.turned (λ j. (turn j).way) l)) [
+          ⊎ IsTurn s (weight_of s value turns) l (turns l) (all_turned at putting.turned (λ j. (turn j).way) l)) [
             | inl above ↦ subst
                 (λ (way : List ℕ). ((way ≡ []) × (turns l ≡ 0)) ⊎ IsTurn s (weight_of s value turns) l (turns l) way)
                 (sym (all_done at putting.turned (λ j. (turn j).way) l above)) (putting.done l u e above)
@@ -217,10 +210,6 @@ putting-small s value turns start counts depth at total path nest costly is befo
     ]
 
 -- And there is room for the next loop's turn.
-pub record HasRoomFor (s : Shape) (counts : ℕ → ℕ) (often total : ℕ) (ks : List ℕ) : Type 0 where
-  pub each : (i : ℕ) → IsUpTo s.arcs i → counts i + often * times ks i ≤ total
-  pub some : (ks ≡ [] → ⊥) → often ≤ total
-
 pub putting-room : (s : Shape) (value turns start counts : ℕ → ℕ) (depth k total : ℕ) (path ks : List ℕ) → IsNest s →
     ((i : ℕ) → IsUpTo s.arcs i → 0 < s.to i → 1 ≤ value i) → IsPath s (weight_of s value turns) path total →
     IsCountedTo s (weight_of s value turns) turns path depth start → IsSolved s value turns (suc depth) →

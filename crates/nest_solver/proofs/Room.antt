@@ -1,21 +1,21 @@
 -- Ways, weights and the bound have room in 64 bits: none is above the crude bound.
-use Rattle.std.proofs.Common.{◌≡◌, ◌⊎◌, ℕ, zero, suc, ◌+◌, ◌-◌, ◌*◌, ◌<◌, ◌≤◌, ◌==◌, ◌&&◌, ◌||◌, nat_lt, cond, Bool, true, false, refl, sym, ap, ap₂, ◌∙◌, subst, inl, inr, arith, mul-le-mul_left, mul-le-mul, true≢false}
+use Rattle.std.proofs.Common.{◌≡◌, ◌⊎◌, ℕ, zero, suc, ◌+◌, ◌*◌, ◌<◌, ◌≤◌, ◌==◌, ◌&&◌, ◌||◌, nat_lt, Bool, true, false, refl, sym, ap, ◌∙◌, subst, inl, inr, arith, mul-le-mul_left, true≢false}
 use Rattle.std.proofs.lemmas.Bool.{cases_eq, cases_lt, cases_Bool}
 use Rattle.std.proofs.lemmas.Bool.Decides.{nat_tests}
 use Rattle.ipet_program.specs.Sums.{sum_to}
 use Rattle.nest_solver.specs.Shape.{Shape, IsNest, IsUpTo, target, is_back, is_entering}
 use Rattle.nest_solver.specs.Nets.{value_at_end}
 use Rattle.nest_solver.specs.Ways.{IsRound, IsSwept, HasRoom, closes, goes_on}
-use Rattle.nest_solver.specs.Solved.{paid, weight_of, IsSolved, AreSolved}
+use Rattle.nest_solver.specs.Solved.{weight_of, IsSolved, AreSolved}
 use Rattle.nest_solver.specs.Counted.{bit}
 use Rattle.nest_solver.specs.Crude.{grown, IsCrude}
-use Rattle.nest_solver.proofs.Sums.{sum-same, sum-le, sum-add, sum-none, sum-only, sum-part}
+use Rattle.nest_solver.proofs.Sums.{sum-le, sum-add, sum-none, sum-only, sum-part}
 use Rattle.nest_solver.proofs.Times.{bit_same}
 use Rattle.nest_solver.proofs.Arcs.{back-of, back-from, entering-of, closes-out, goes_on-out, deeper}
 use Rattle.nest_solver.proofs.Solving.{paid-some, paid-none, closes_not_entering}
 use Rattle.nest_solver.proofs.Forward.{swept-small}
 use Rattle.nest_solver.proofs.Products.{grown-most}
-use Rattle.nest_solver.proofs.Priced.{sum_in, priced, extra, carried, Takes, Covers, takes-all, takes-loop, covers-none, covers-level}
+use Rattle.nest_solver.proofs.Priced.{sum_in, priced, carried, Takes, Covers, takes-all, takes-loop, covers-none, covers-level}
 
 -- Sets in one another.
 in_le : (a b : Bool) (x : ℕ) → (a ≡ true → b ≡ true) → bit a * x ≤ bit b * x
@@ -68,16 +68,22 @@ in-with s few many f t u more out has =
 priced_bit : (h t deep depth : ℕ) → h ≡ t → depth < deep → bit ((h == t) && nat_lt depth deep) ≡ 1
 priced_bit h t deep depth e less = grind (arith, nat_tests)
 
-pub weight-priced : (s : Shape) (price turns : ℕ → ℕ) (depth i : ℕ) → IsNest s →
+-- The value of an arc is no more than the price of the place that it goes to.
+abbrev pub IsFit : Shape → (value price : ℕ → ℕ) → Type 0
+IsFit s value price = (i : ℕ) → IsUpTo s.arcs i → value i ≤ price (s.to i)
+
+pub weight-priced : (s : Shape) (value price turns : ℕ → ℕ) (depth i : ℕ) → IsNest s → IsFit s value price →
+    IsUpTo s.arcs i →
     (is_entering s i ≡ true → depth < s.depth (target s i)) →
-    weight_of s (value_at_end s price) turns i ≤ priced s price turns depth (s.to i)
-weight-priced s price turns depth i nest deep =
+    weight_of s value turns i ≤ priced s price turns depth (s.to i)
+weight-priced s value price turns depth i nest fits u deep =
     elim (cases_Bool (is_entering s i))
-    as (λ _. weight_of s (value_at_end s price) turns i ≤ priced s price turns depth (s.to i)) [
-      | inr out ↦ omega (arith, paid-none s turns i out)
+    as (λ _. weight_of s value turns i ≤ priced s price turns depth (s.to i)) [
+      | inr out ↦ omega (arith, paid-none s turns i out, fits i u)
       | inl into ↦ let of_loop = entering-of s nest i into in
           omega (
             arith,
+            fits i u,
             paid-some s turns i into,
             sum-part s.loops (target s i)
                 (λ l. bit ((s.header l == s.to i) && nat_lt depth (s.depth l)) * carried s turns l) of_loop.up,
@@ -111,35 +117,35 @@ after_not r q rp rq h x more other = grind (arith, nat_tests)
 abbrev most_in : Shape → (rank round price turns : ℕ → ℕ) → (depth : ℕ) → ℕ → ℕ
 most_in s rank round price turns depth p = sum_in s (after_in s rank round p) (priced s price turns depth)
 
-goes_in : (s : Shape) (rank round price turns : ℕ → ℕ) (depth i : ℕ) → IsNest s → IsRound s (suc depth) round →
+goes_in : (s : Shape) (rank round value price turns : ℕ → ℕ) (depth i : ℕ) → IsNest s → IsFit s value price → IsRound s (suc depth) round →
     ((j : ℕ) → IsUpTo s.arcs j → 0 < s.from j → 0 < s.to j → is_back s j ≡ false →
-        rank (s.from j) < rank (s.to j)) →
+    rank (s.from j) < rank (s.to j)) →
     IsUpTo s.arcs i → goes_on s (suc depth) round i ≡ true →
-    weight_of s (value_at_end s price) turns i + most_in s rank round price turns (suc depth) (s.to i)
+    weight_of s value turns i + most_in s rank round price turns (suc depth) (s.to i)
     ≤ most_in s rank round price turns (suc depth) (s.from i)
-goes_in s rank round price turns depth i nest rounds rises u on =
+goes_in s rank round value price turns depth i nest fits rounds rises u on =
     let goes = goes_on-out s (suc depth) round i on in
     elim goes.inside
-    as (λ _. weight_of s (value_at_end s price) turns i + most_in s rank round price turns (suc depth) (s.to i)
-        ≤ most_in s rank round price turns (suc depth) (s.from i)) [
+    as (λ _. weight_of s value turns i + most_in s rank round price turns (suc depth) (s.to i)
+    ≤ most_in s rank round price turns (suc depth) (s.from i)) [
       | inl z ↦ absurd (omega (arith, z))
       | inr same ↦
-        let less = rises i u goes.from goes.to goes.forward in
-        let here = rounds.here (s.from i) same.0 in
-        omega (
-          arith,
-          weight-priced s price turns (suc depth) i nest
-              (λ into. deeper s nest (suc depth) round i rounds on into),
-          in-with s (after_in s rank round (s.to i)) (after_in s rank round (s.from i))
-              (priced s price turns (suc depth)) (s.to i) (goes.to, nest.ends i u)
-              (λ q e. more same.1 less q e)
-              (after_not (round (s.to i)) (round (s.to i)) (rank (s.to i)) (rank (s.to i))
-              (s.header (round (s.to i))) (s.to i) (omega arith)
-              (λ e. true≢false (sym (back-from s nest i (round (s.from i)) here.0
-              (e ∙ ap s.header (sym same.1)) here.2) ∙ goes.forward)))
-              (after_from (round (s.from i)) (round (s.to i)) (rank (s.from i)) (rank (s.to i))
-              (s.header (round (s.from i))) (s.to i) same.0 (sym same.1) (inl less)),
-        )
+          let less = rises i u goes.from goes.to goes.forward in
+          let here = rounds.here (s.from i) same.0 in
+          omega (
+            arith,
+            weight-priced s value price turns (suc depth) i nest fits u
+                (λ into. deeper s nest (suc depth) round i rounds on into),
+            in-with s (after_in s rank round (s.to i)) (after_in s rank round (s.from i))
+                (priced s price turns (suc depth)) (s.to i) (goes.to, nest.ends i u)
+                (λ q e. more same.1 less q e)
+                (after_not (round (s.to i)) (round (s.to i)) (rank (s.to i)) (rank (s.to i))
+                (s.header (round (s.to i))) (s.to i) (omega arith)
+                (λ e. true≢false (sym (back-from s nest i (round (s.from i)) here.0
+                (e ∙ ap s.header (sym same.1)) here.2) ∙ goes.forward)))
+                (after_from (round (s.from i)) (round (s.to i)) (rank (s.from i)) (rank (s.to i))
+                (s.header (round (s.from i))) (s.to i) same.0 (sym same.1) (inl less)),
+          )
     ]
   where
     more : round (s.from i) ≡ round (s.to i) → rank (s.from i) < rank (s.to i) → (q : ℕ) →
@@ -153,27 +159,28 @@ goes_in s rank round price turns depth i nest rounds rises u on =
           | inr is ↦ inr (is ∙ ap s.header (sym same))
         ])
 
-ends_in : (s : Shape) (rank round price turns : ℕ → ℕ) (depth i : ℕ) → IsNest s → IsRound s (suc depth) round →
+ends_in : (s : Shape) (rank round value price turns : ℕ → ℕ) (depth i : ℕ) → IsNest s → IsFit s value price → IsRound s (suc depth) round →
+    IsUpTo s.arcs i →
     closes s (suc depth) i ≡ true →
-    weight_of s (value_at_end s price) turns i ≤ most_in s rank round price turns (suc depth) (s.from i)
-ends_in s rank round price turns depth i nest rounds c =
+    weight_of s value turns i ≤ most_in s rank round price turns (suc depth) (s.from i)
+ends_in s rank round value price turns depth i nest fits rounds u c =
     elim (closes-out s (suc depth) i c)
-    as (λ _. weight_of s (value_at_end s price) turns i ≤ most_in s rank round price turns (suc depth) (s.from i)) [
+    as (λ _. weight_of s value turns i ≤ most_in s rank round price turns (suc depth) (s.from i)) [
       | inl z ↦ absurd (omega (arith, z))
       | inr back ↦
-        let is = back-of s nest i back.1 in
-        let from : round (s.from i) ≡ target s i = rounds.all (target s i) (s.from i) is.up back.2 is.source in
-        let to : round (s.to i) ≡ target s i = rounds.all (target s i) (s.to i) is.up back.2 is.held in
-        omega (
-          arith,
-          weight-priced s price turns (suc depth) i nest
-              (λ into. absurd (true≢false (sym into ∙ closes_not_entering s nest (suc depth) i c))),
-          in_one s (after_in s rank round (s.from i)) (priced s price turns (suc depth)) (s.to i)
-              (omega (arith, is.header, nest.headers (target s i) is.up))
-              (after_from (round (s.from i)) (round (s.to i)) (rank (s.from i)) (rank (s.to i))
-              (s.header (round (s.from i))) (s.to i) (omega (arith, from, is.up)) (to ∙ sym from)
-              (inr (is.header ∙ ap s.header (sym from)))),
-        )
+          let is = back-of s nest i back.1 in
+          let from : round (s.from i) ≡ target s i = rounds.all (target s i) (s.from i) is.up back.2 is.source in
+          let to : round (s.to i) ≡ target s i = rounds.all (target s i) (s.to i) is.up back.2 is.held in
+          omega (
+            arith,
+            weight-priced s value price turns (suc depth) i nest fits u
+                (λ into. absurd (true≢false (sym into ∙ closes_not_entering s nest (suc depth) i c))),
+            in_one s (after_in s rank round (s.from i)) (priced s price turns (suc depth)) (s.to i)
+                (omega (arith, is.header, nest.headers (target s i) is.up))
+                (after_from (round (s.from i)) (round (s.to i)) (rank (s.from i)) (rank (s.to i))
+                (s.header (round (s.from i))) (s.to i) (omega (arith, from, is.up)) (to ∙ sym from)
+                (inr (is.header ∙ ap s.header (sym from)))),
+          )
     ]
 
 -- Inside a loop no way weighs more than its places come to.
@@ -201,15 +208,15 @@ grown_all s price limit depth set nest crude =
 abbrev CoversAll : Shape → (price turns : ℕ → ℕ) → ℕ → Type 0
 CoversAll s price turns depth = (set : ℕ → Bool) → Takes s depth set → Covers s price turns depth set
 
-room_in : (s : Shape) (price turns round : ℕ → ℕ) (depth limit : ℕ) → IsNest s → IsCrude s price limit →
+room_in : (s : Shape) (value price turns round : ℕ → ℕ) (depth limit : ℕ) → IsNest s → IsFit s value price → IsCrude s price limit →
     IsRound s (suc depth) round → CoversAll s price turns (suc depth) →
-    HasRoom s (suc depth) round (weight_of s (value_at_end s price) turns) limit
-room_in s price turns round depth limit nest crude rounds covers =
+    HasRoom s (suc depth) round (weight_of s value turns) limit
+room_in s value price turns round depth limit nest fits crude rounds covers =
     record {
       most = most_in s nest.rank round price turns (suc depth);
       small = λ p. small p (cases_lt 0 (round p));
-      ends = λ i u c. ends_in s nest.rank round price turns depth i nest rounds c;
-      goes = λ i u on. goes_in s nest.rank round price turns depth i nest rounds nest.rises u on;
+      ends = λ i u c. ends_in s nest.rank round value price turns depth i nest fits rounds u c;
+      goes = λ i u on. goes_in s nest.rank round value price turns depth i nest fits rounds nest.rises u on;
     }
   where
     small : (p : ℕ) → (0 < round p) ⊎ (round p ≤ 0) → most_in s nest.rank round price turns (suc depth) p ≤ limit
@@ -234,21 +241,21 @@ room_in s price turns round depth limit nest crude rounds covers =
         nothing r low b = grind (arith, nat_tests)
 
 -- So a loop's turn weighs no more than its places grow to.
-turn_small : (s : Shape) (price turns : ℕ → ℕ) (depth limit : ℕ) → IsNest s → IsCrude s price limit →
-    IsSolved s (value_at_end s price) turns (suc depth) → CoversAll s price turns (suc depth) →
+turn_small : (s : Shape) (value price turns : ℕ → ℕ) (depth limit : ℕ) → IsNest s → IsFit s value price → IsCrude s price limit →
+    IsSolved s value turns (suc depth) → CoversAll s price turns (suc depth) →
     (l : ℕ) → IsUpTo s.loops l → s.depth l ≡ suc depth →
     turns l ≤ sum_in s (s.holds l) (λ p. price p * grown s (suc depth) p)
 unfolding room_in
-turn_small s price turns depth limit nest crude solved covers l u deep =
+turn_small s value price turns depth limit nest fits crude solved covers l u deep =
     omega (
       arith,
       solved.turned l u deep,
-      swept-small s (suc depth) limit solved.round (weight_of s (value_at_end s price) turns) solved.best solved.choice
+      swept-small s (suc depth) limit solved.round (weight_of s value turns) solved.best solved.choice
           nest solved.swept (record {
             most = most_in s nest.rank solved.round price turns (suc depth);
-            small = (room_in s price turns solved.round depth limit nest crude solved.rounds covers).small;
-            ends = λ i v c. ends_in s nest.rank solved.round price turns depth i nest solved.rounds c;
-            goes = λ i v on. goes_in s nest.rank solved.round price turns depth i nest solved.rounds nest.rises v on;
+            small = (room_in s value price turns solved.round depth limit nest fits crude solved.rounds covers).small;
+            ends = λ i v c. ends_in s nest.rank solved.round value price turns depth i nest fits solved.rounds v c;
+            goes = λ i v on. goes_in s nest.rank solved.round value price turns depth i nest fits solved.rounds nest.rises v on;
           }) (s.header l),
       inside_most s nest.rank solved.round price turns depth (s.header l) l solved.rounds
           (solved.rounds.all l (s.header l) u deep (nest.held l u)),
@@ -256,25 +263,25 @@ turn_small s price turns depth limit nest crude solved covers l u deep =
     )
 
 -- Level by level, the deepest first.
-covers_by : (s : Shape) (price turns : ℕ → ℕ) (limit n depth : ℕ) → IsNest s → IsCrude s price limit →
+covers_by : (s : Shape) (value price turns : ℕ → ℕ) (limit n depth : ℕ) → IsNest s → IsFit s value price → IsCrude s price limit →
     ((l : ℕ) → IsUpTo s.loops l → s.depth l ≤ depth + n) →
-    AreSolved s (value_at_end s price) turns (suc depth) → CoversAll s price turns depth
-covers_by s price turns limit zero depth nest crude low solved set takes =
+    AreSolved s value turns (suc depth) → CoversAll s price turns depth
+covers_by s value price turns limit zero depth nest fits crude low solved set takes =
     covers-none s price turns depth set (λ l u. omega (arith, low l u))
-covers_by s price turns limit (suc n) depth nest crude low solved set takes =
+covers_by s value price turns limit (suc n) depth nest fits crude low solved set takes =
     let this = solved (suc depth) (omega arith) in
     let below : CoversAll s price turns (suc depth) =
-    covers_by s price turns limit n (suc depth) nest crude (λ l u. omega (arith, low l u))
+    covers_by s value price turns limit n (suc depth) nest fits crude (λ l u. omega (arith, low l u))
     (λ e high. solved e (omega (arith, high))) in
     covers-level s price turns depth this.round set nest this.rounds takes
     (below set (λ l u deep. takes l u (omega (arith, deep))))
-    (turn_small s price turns depth limit nest crude this below)
+    (turn_small s value price turns depth limit nest fits crude this below)
 
-pub covers-solved : (s : Shape) (price turns : ℕ → ℕ) (limit depth : ℕ) → IsNest s → IsCrude s price limit →
-    AreSolved s (value_at_end s price) turns (suc depth) → (set : ℕ → Bool) → Takes s depth set →
+pub covers-solved : (s : Shape) (value price turns : ℕ → ℕ) (limit depth : ℕ) → IsNest s → IsFit s value price → IsCrude s price limit →
+    AreSolved s value turns (suc depth) → (set : ℕ → Bool) → Takes s depth set →
     Covers s price turns depth set
-covers-solved s price turns limit depth nest crude solved =
-    covers_by s price turns limit (sum_to s.loops s.depth) depth nest crude
+covers-solved s value price turns limit depth nest fits crude solved =
+    covers_by s value price turns limit (sum_to s.loops s.depth) depth nest fits crude
     (λ l u. omega (arith, sum-part s.loops l s.depth u)) solved
 
 -- At depth 0 what may follow a place are the places of greater number.
@@ -290,16 +297,16 @@ lt_from a b h = grind (arith, nat_tests)
 lt_not : (a b : ℕ) → b ≤ a → nat_lt a b ≡ false
 lt_not a b h = grind (arith, nat_tests)
 
-goes_out : (s : Shape) (price turns round : ℕ → ℕ) (i : ℕ) → (nest : IsNest s) → IsRound s 0 round → IsUpTo s.arcs i →
+goes_out : (s : Shape) (value price turns round : ℕ → ℕ) (i : ℕ) → (nest : IsNest s) → IsFit s value price → IsRound s 0 round → IsUpTo s.arcs i →
     goes_on s 0 round i ≡ true →
-    weight_of s (value_at_end s price) turns i + most_out s nest.rank price turns (s.to i)
+    weight_of s value turns i + most_out s nest.rank price turns (s.to i)
     ≤ most_out s nest.rank price turns (s.from i)
-goes_out s price turns round i nest rounds u on =
+goes_out s value price turns round i nest fits rounds u on =
     let goes = goes_on-out s 0 round i on in
     let less = nest.rises i u goes.from goes.to goes.forward in
     omega (
       arith,
-      weight-priced s price turns 0 i nest (λ into. deeper s nest 0 round i rounds on into),
+      weight-priced s value price turns 0 i nest fits u (λ into. deeper s nest 0 round i rounds on into),
       in-with s (λ q. nat_lt (nest.rank (s.to i)) (nest.rank q)) (λ q. nat_lt (nest.rank (s.from i)) (nest.rank q))
           (priced s price turns 0) (s.to i) (goes.to, nest.ends i u)
           (λ q e. lt_from (nest.rank (s.from i)) (nest.rank q)
@@ -308,13 +315,14 @@ goes_out s price turns round i nest rounds u on =
           (lt_from (nest.rank (s.from i)) (nest.rank (s.to i)) less),
     )
 
-ends_out : (s : Shape) (price turns : ℕ → ℕ) (i : ℕ) → (nest : IsNest s) → price 0 ≡ 0 → closes s 0 i ≡ true →
-    weight_of s (value_at_end s price) turns i ≤ most_out s nest.rank price turns (s.from i)
-ends_out s price turns i nest free c =
+ends_out : (s : Shape) (value price turns : ℕ → ℕ) (i : ℕ) → (nest : IsNest s) → IsFit s value price → price 0 ≡ 0 → IsUpTo s.arcs i → closes s 0 i ≡ true →
+    weight_of s value turns i ≤ most_out s nest.rank price turns (s.from i)
+ends_out s value price turns i nest fits free u c =
     elim (closes-out s 0 i c)
-    as (λ _. weight_of s (value_at_end s price) turns i ≤ most_out s nest.rank price turns (s.from i)) [
+    as (λ _. weight_of s value turns i ≤ most_out s nest.rank price turns (s.from i)) [
       | inl z ↦ omega (
         arith,
+        fits i u,
         ap price z.0,
         free,
         paid-none s turns i (closes_not_entering s nest 0 i c),
@@ -322,55 +330,55 @@ ends_out s price turns i nest free c =
       | inr back ↦ absurd (omega (arith, back.2, nest.deep (target s i) (back-of s nest i back.1).up))
     ]
 
-pub priced_all : (s : Shape) (price turns : ℕ → ℕ) (limit depth : ℕ) → IsNest s → IsCrude s price limit →
-    AreSolved s (value_at_end s price) turns (suc depth) → sum_in s (λ p. true) (priced s price turns depth) ≤ limit
-priced_all s price turns limit depth nest crude solved =
+pub priced_all : (s : Shape) (value price turns : ℕ → ℕ) (limit depth : ℕ) → IsNest s → IsFit s value price → IsCrude s price limit →
+    AreSolved s value turns (suc depth) → sum_in s (λ p. true) (priced s price turns depth) ≤ limit
+priced_all s value price turns limit depth nest fits crude solved =
     omega (
       arith,
-      covers-solved s price turns limit depth nest crude solved (λ p. true) (takes-all s depth),
+      covers-solved s value price turns limit depth nest fits crude solved (λ p. true) (takes-all s depth),
       grown_all s price limit depth (λ p. true) nest crude,
     )
 
-room_out : (s : Shape) (price turns round : ℕ → ℕ) (limit : ℕ) → IsNest s → IsCrude s price limit →
-    AreSolved s (value_at_end s price) turns 1 → IsRound s 0 round →
-    HasRoom s 0 round (weight_of s (value_at_end s price) turns) limit
-room_out s price turns round limit nest crude solved rounds =
+room_out : (s : Shape) (value price turns round : ℕ → ℕ) (limit : ℕ) → IsNest s → IsFit s value price → IsCrude s price limit →
+    AreSolved s value turns 1 → IsRound s 0 round →
+    HasRoom s 0 round (weight_of s value turns) limit
+room_out s value price turns round limit nest fits crude solved rounds =
     record {
       most = most_out s nest.rank price turns;
       small = λ p. omega (
         arith,
         in-more s (λ q. nat_lt (nest.rank p) (nest.rank q)) (λ q. true) (priced s price turns 0) (λ q e. refl),
-        priced_all s price turns limit 0 nest crude solved,
+        priced_all s value price turns limit 0 nest fits crude solved,
       );
-      ends = λ i u c. ends_out s price turns i nest crude.outside c;
-      goes = λ i u on. goes_out s price turns round i nest rounds u on;
+      ends = λ i u c. ends_out s value price turns i nest fits crude.outside u c;
+      goes = λ i u on. goes_out s value price turns round i nest fits rounds u on;
     }
 
 -- The ways of a depth have room once all deeper loops are solved.
-pub room-level : (s : Shape) (price turns round : ℕ → ℕ) (depth limit : ℕ) → IsNest s → IsCrude s price limit →
-    AreSolved s (value_at_end s price) turns (suc depth) → IsRound s depth round →
-    HasRoom s depth round (weight_of s (value_at_end s price) turns) limit
-room-level s price turns round zero limit nest crude solved rounds =
-    room_out s price turns round limit nest crude solved rounds
-room-level s price turns round (suc depth) limit nest crude solved rounds =
-    room_in s price turns round depth limit nest crude rounds
-    (covers-solved s price turns limit (suc depth) nest crude solved)
+pub room-level_fit : (s : Shape) (value price turns round : ℕ → ℕ) (depth limit : ℕ) → IsNest s → IsFit s value price → IsCrude s price limit →
+    AreSolved s value turns (suc depth) → IsRound s depth round →
+    HasRoom s depth round (weight_of s value turns) limit
+room-level_fit s value price turns round zero limit nest fits crude solved rounds =
+    room_out s value price turns round limit nest fits crude solved rounds
+room-level_fit s value price turns round (suc depth) limit nest fits crude solved rounds =
+    room_in s value price turns round depth limit nest fits crude rounds
+    (covers-solved s value price turns limit (suc depth) nest fits crude solved)
 
 -- So have the weights of all arcs that carry no turn but those of solved loops.
-pub room-weight : (s : Shape) (price turns : ℕ → ℕ) (depth limit i : ℕ) → IsNest s → IsCrude s price limit →
-    AreSolved s (value_at_end s price) turns (suc depth) → IsUpTo s.arcs i →
+pub room-weight_fit : (s : Shape) (value price turns : ℕ → ℕ) (depth limit i : ℕ) → IsNest s → IsFit s value price → IsCrude s price limit →
+    AreSolved s value turns (suc depth) → IsUpTo s.arcs i →
     (is_entering s i ≡ true → depth < s.depth (target s i)) →
-    weight_of s (value_at_end s price) turns i ≤ limit
-room-weight s price turns depth limit i nest crude solved u deep =
-    elim (cases_lt 0 (s.to i)) as (λ _. weight_of s (value_at_end s price) turns i ≤ limit) [
+    weight_of s value turns i ≤ limit
+room-weight_fit s value price turns depth limit i nest fits crude solved u deep =
+    elim (cases_lt 0 (s.to i)) as (λ _. weight_of s value turns i ≤ limit) [
       | inl low ↦ omega (
         arith,
-        weight-priced s price turns depth i nest deep,
+        weight-priced s value price turns depth i nest fits u deep,
         in_one s (λ p. true) (priced s price turns depth) (s.to i) (low, nest.ends i u) refl,
-        priced_all s price turns limit depth nest crude solved,
+        priced_all s value price turns limit depth nest fits crude solved,
       )
       | inr none ↦ let z : s.to i ≡ 0 = omega (arith, none) in
-          omega (arith, ap price z, crude.outside, paid-none s turns i (no_entry z))
+          omega (arith, fits i u, ap price z, crude.outside, paid-none s turns i (no_entry z))
     ]
   where
     no_entry : s.to i ≡ 0 → is_entering s i ≡ false
@@ -381,23 +389,47 @@ room-weight s price turns depth limit i nest crude solved u deep =
     ]
 
 -- Arc 1 and the longest way behind it weigh no more than the limit.
+pub total-small_fit : (s : Shape) (value price turns round best choice : ℕ → ℕ) (limit : ℕ) → IsNest s → IsFit s value price → IsCrude s price limit →
+    AreSolved s value turns 1 → IsRound s 0 round →
+    IsSwept s 0 round (weight_of s value turns) best choice →
+    weight_of s value turns 1 + best (s.to 1) ≤ limit + 1
+unfolding room_out
+total-small_fit s value price turns round best choice limit nest fits crude solved rounds swept =
+    omega (
+      arith,
+      swept-small s 0 limit round (weight_of s value turns) best choice nest swept (record {
+        most = most_out s nest.rank price turns;
+        small = (room_out s value price turns round limit nest fits crude solved rounds).small;
+        ends = λ i u c. ends_out s value price turns i nest fits crude.outside u c;
+        goes = λ i u on. goes_out s value price turns round i nest fits rounds u on;
+      }) (s.to 1),
+      weight-priced s value price turns 0 1 nest fits (omega (arith, nest.some)) (λ into. omega (arith, nest.deep (target s 1) (entering-of s nest 1 into).up)),
+      in-with s (λ q. nat_lt (nest.rank (s.to 1)) (nest.rank q)) (λ q. true) (priced s price turns 0) (s.to 1)
+          (nest.begins, nest.ends 1 (omega (arith, nest.some))) (λ q e. refl)
+          (lt_not (nest.rank (s.to 1)) (nest.rank (s.to 1)) (omega arith)) refl,
+      priced_all s value price turns limit 0 nest fits crude solved,
+    )
+
+-- ---- The same where an arc's value is just the price of the place that it goes to.
+pub fits-end : (s : Shape) (price : ℕ → ℕ) → IsFit s (value_at_end s price) price
+fits-end s price i u = omega arith
+
+pub room-level : (s : Shape) (price turns round : ℕ → ℕ) (depth limit : ℕ) → IsNest s → IsCrude s price limit →
+    AreSolved s (value_at_end s price) turns (suc depth) → IsRound s depth round →
+    HasRoom s depth round (weight_of s (value_at_end s price) turns) limit
+room-level s price turns round depth limit nest crude solved rounds =
+    room-level_fit s (value_at_end s price) price turns round depth limit nest (fits-end s price) crude solved rounds
+
+pub room-weight : (s : Shape) (price turns : ℕ → ℕ) (depth limit i : ℕ) → IsNest s → IsCrude s price limit →
+    AreSolved s (value_at_end s price) turns (suc depth) → IsUpTo s.arcs i →
+    (is_entering s i ≡ true → depth < s.depth (target s i)) → weight_of s (value_at_end s price) turns i ≤ limit
+room-weight s price turns depth limit i nest crude solved u deep =
+    room-weight_fit s (value_at_end s price) price turns depth limit i nest (fits-end s price) crude solved u deep
+
 pub total-small : (s : Shape) (price turns round best choice : ℕ → ℕ) (limit : ℕ) → IsNest s → IsCrude s price limit →
     AreSolved s (value_at_end s price) turns 1 → IsRound s 0 round →
     IsSwept s 0 round (weight_of s (value_at_end s price) turns) best choice →
     weight_of s (value_at_end s price) turns 1 + best (s.to 1) ≤ limit + 1
-unfolding room_out
 total-small s price turns round best choice limit nest crude solved rounds swept =
-    omega (
-      arith,
-      swept-small s 0 limit round (weight_of s (value_at_end s price) turns) best choice nest swept (record {
-        most = most_out s nest.rank price turns;
-        small = (room_out s price turns round limit nest crude solved rounds).small;
-        ends = λ i u c. ends_out s price turns i nest crude.outside c;
-        goes = λ i u on. goes_out s price turns round i nest rounds u on;
-      }) (s.to 1),
-      weight-priced s price turns 0 1 nest (λ into. omega (arith, nest.deep (target s 1) (entering-of s nest 1 into).up)),
-      in-with s (λ q. nat_lt (nest.rank (s.to 1)) (nest.rank q)) (λ q. true) (priced s price turns 0) (s.to 1)
-          (nest.begins, nest.ends 1 (omega (arith, nest.some))) (λ q e. refl)
-          (lt_not (nest.rank (s.to 1)) (nest.rank (s.to 1)) (omega arith)) refl,
-      priced_all s price turns limit 0 nest crude solved,
-    )
+    total-small_fit s (value_at_end s price) price turns round best choice limit nest (fits-end s price) crude solved
+    rounds swept

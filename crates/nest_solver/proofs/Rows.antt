@@ -1,14 +1,13 @@
 -- The rows of a net's program say of counts that they keep arc 1, the places and the loops.
-use Rattle.std.proofs.Common.{◌≡◌, ◌⊎◌, ◌↔◌, ℕ, zero, suc, ◌+◌, ◌-◌, ◌*◌, ◌<◌, ◌≤◌, ◌==◌, ◌&&◌, not, cond, Bool, true, false, List, [], ◌∷◌, ◌++◌, length, slice_get, All, Option, Some, None, refl, sym, ap, ap₂, ◌∙◌, subst, inl, inr, arith, true≢false, if◌then◌else◌}
-use Rattle.std.proofs.lemmas.Bool.{cases_eq, cases_Bool, cases_lt}
+use Rattle.std.proofs.Common.{◌≡◌, ◌↔◌, ℕ, zero, suc, ◌+◌, ◌*◌, ◌<◌, ◌≤◌, ◌==◌, ◌&&◌, not, cond, Bool, true, false, List, [], ◌∷◌, ◌++◌, length, slice_get, All, Option, Some, refl, sym, ap, ap₂, ◌∙◌, subst, arith, true≢false}
+use Rattle.std.proofs.lemmas.Bool.{ne_eqb}
 use Rattle.std.proofs.lemmas.Int.{ints}
-use Rattle.std.proofs.lemmas.List.Elements.{All-cons, All-append, All-same}
-use lib.IntN.{ℤ, pos, negsuc, ◌+ℤ◌, ◌-ℤ◌, ◌*ℤ◌}
+use Rattle.std.proofs.lemmas.List.Elements.{All-cons, All-append}
+use lib.IntN.{ℤ, pos, ◌-ℤ◌, ◌*ℤ◌}
 use lib.Signed.{◌≤ℤ◌}
 use borrow.Author.Differences.{up, down}
-use Rattle.flow_net.specs.Numbers.{item_at, IsNumberOf}
+use Rattle.flow_net.specs.Numbers.{item_at}
 use Rattle.flow_net.specs.Nested.{IsNested}
-use Rattle.flow_net.specs.Scopes.{Holds}
 use Rattle.flow_net.specs.declared.net.LoopInst.{LoopInst}
 use Rattle.flow_net.specs.declared.net.Net.{Net}
 use Rattle.flow_net.specs.declared.net.NetArc.{NetArc}
@@ -18,7 +17,7 @@ use Rattle.ipet_program.specs.Leaves.{value_at}
 use Rattle.ipet_program.specs.Programs.{IsProgramOf, arc_value, crude_of, crude_limit}
 use Rattle.ipet_program.specs.Rows.{terms_of, one_if, comes_to, goes_from, is_entering as enters_loop, entry_row, place_factor, place_row, loop_factor, loop_row_of, loop_row, rows_of}
 use Rattle.ipet_program.specs.Scopes.{TellsHeld, turns_at, bound_of}
-use Rattle.ipet_program.specs.Sums.{numbered, sum_to, product_to}
+use Rattle.ipet_program.specs.Sums.{numbered, sum_to}
 use Rattle.ipet_program.specs.declared.program.Program.{Program}
 use Rattle.ipet_program.specs.declared.program.Row.{Row}
 use Rattle.ipet_program.proofs.Totals.{total_to, total_to-same, total_to-one}
@@ -26,15 +25,17 @@ use Rattle.ipet_program.proofs.Terms.{row_sum-terms}
 use Rattle.ipet_program.proofs.Values.{value_of-total}
 use Rattle.ipet_program.proofs.Numbered.{item_at-numbered, All-numbered, length-numbered}
 use Rattle.ipet_program.proofs.RunCounts.{value_at-arc, length-value}
-use Rattle.nest_solver.specs.Nets.{IsProgramOfNet, shape_of, holds_of, value_at_end, source_of}
-use Rattle.nest_solver.specs.Shape.{Shape, IsNest, IsUpTo}
+use Rattle.nest_solver.specs.Nets.{shape_of, holds_of, value_at_end, source_of, header_of}
+use Rattle.nest_solver.specs.Shape.{Shape, IsUpTo}
 use Rattle.nest_solver.specs.Counted.{bit}
 use Rattle.nest_solver.specs.Crude.{grown, IsCrude}
-use Rattle.nest_solver.proofs.Sums.{sum-same, sum-le, sum-scale}
+use Rattle.nest_solver.proofs.Sums.{sum-same, sum-scale}
 use Rattle.nest_solver.proofs.Products.{product-same}
 use Rattle.std.proofs.lemmas.Bool.Decides.{nat_tests}
 use Rattle.nest_solver.proofs.Counting.{Keeps, comes, goes, goes_in}
-use Rattle.nest_solver.proofs.NetShape.{IsItem, arc-at, loop-at, held-told}
+use Rattle.nest_solver.proofs.NetShape.{arc-at, loop-at, held-told}
+use Rattle.flow_net.specs.Visits.{target_of}
+use Rattle.std.specs.Prelude.{nat_lt}
 
 -- ---- Two tests that tell one thing are one.
 told_one : {P : Type 0} (a b : Bool) → ((a ≡ true) ↔ P) → ((b ≡ true) ↔ P) → a ≡ b
@@ -108,11 +109,10 @@ row-diff : (factor : ℕ → ℤ) (a b x : ℕ → ℕ) (n : ℕ) →
 row-diff factor a b x n is =
     row_sum-terms x factor n
     ∙ total_to-same (λ j. factor j *ℤ pos (x j)) (λ j. (pos (a j) -ℤ pos (b j)) *ℤ pos (x j)) n
-        (λ j low high. ap (λ (z : ℤ). z *ℤ pos (x j)) (is j (low, high)))
+    (λ j low high. ap (λ (z : ℤ). z *ℤ pos (x j)) (is j (low, high)))
     ∙ total-diff a b x n
 
 module _ (net : Net) (depth headed : ℕ → ℕ) where
-
   abbrev s : Shape
   s = shape_of net depth headed
 
@@ -125,7 +125,7 @@ module _ (net : Net) (depth headed : ℕ → ℕ) where
           place_factor net.arcs p j ≡ pos (comes s p j) -ℤ pos (goes s p j)
       by arc there =
           subst (λ (found : Option NetArc). one_if (comes_to p found) -ℤ one_if (goes_from p found)
-          ≡ pos (bit (Rattle.flow_net.specs.Visits.target_of found == p)) -ℤ pos (bit (source_of found == p)))
+          ≡ pos (bit (target_of found == p)) -ℤ pos (bit (source_of found == p)))
           (sym there)
           (ap₂ (λ (y z : ℤ). y -ℤ z) (bit-one (arc.to == p)) (bit-one (arc.from == p)))
 
@@ -135,7 +135,7 @@ module _ (net : Net) (depth headed : ℕ → ℕ) where
   loop-factor inst l j loop u = let arc = arc-at net j u in by arc.item arc.there
     where
       header : s.header l ≡ inst.header
-      header = ap Rattle.nest_solver.specs.Nets.header_of loop
+      header = ap header_of loop
 
       times : (t : Bool) → pos inst.bound *ℤ one_if t ≡ pos (inst.bound * bit t)
       times true = omega (arith, ints)
@@ -147,8 +147,8 @@ module _ (net : Net) (depth headed : ℕ → ℕ) where
       by arc there =
           subst (λ (found : Option NetArc).
           one_if (comes_to inst.header found) -ℤ pos inst.bound *ℤ one_if (enters_loop (holds_of net l) inst.header found)
-          ≡ pos (bit (Rattle.flow_net.specs.Visits.target_of found == s.header l))
-          -ℤ pos (inst.bound * bit ((Rattle.flow_net.specs.Visits.target_of found == s.header l)
+          ≡ pos (bit (target_of found == s.header l))
+          -ℤ pos (inst.bound * bit ((target_of found == s.header l)
           && not (holds_of net l (source_of found)))))
           (sym there)
           (subst (λ (h : ℕ). one_if (arc.to == inst.header)
@@ -162,11 +162,11 @@ module _ (net : Net) (depth headed : ℕ → ℕ) where
   entry-sum x some =
       row_sum-terms x (λ column. one_if (column == 1)) (length net.arcs)
       ∙ total_to-one (λ j. one_if (j == 1) *ℤ pos (x j)) (length net.arcs) 1 (omega arith) some
-          (λ j differ. ap (λ (z : ℤ). z *ℤ pos (x j)) (other j differ) ∙ omega (arith, ints))
+      (λ j differ. ap (λ (z : ℤ). z *ℤ pos (x j)) (other j differ) ∙ omega (arith, ints))
       ∙ omega (arith, ints)
     where
       other : (j : ℕ) → (j ≡ 1 → ⊥) → one_if (j == 1) ≡ pos 0
-      other j differ = ap one_if (Rattle.std.proofs.lemmas.Bool.ne_eqb j 1 differ)
+      other j differ = ap one_if (ne_eqb j 1 differ)
 
   place-sum : (x : ℕ → ℕ) (p : ℕ) → row_sum x (place_row net.arcs p).terms
       ≡ pos (sum_to (length net.arcs) (λ j. comes s p j * x j)) -ℤ pos (sum_to (length net.arcs) (λ j. goes s p j * x j))
@@ -175,7 +175,7 @@ module _ (net : Net) (depth headed : ℕ → ℕ) where
   loop-sum : (x : ℕ → ℕ) (inst : LoopInst) (l : ℕ) → item_at l net.loops ≡ Some inst →
       row_sum x (loop_row_of net.arcs (holds_of net l) (Some inst)).terms
       ≡ pos (sum_to (length net.arcs) (λ j. comes s (s.header l) j * x j))
-          -ℤ pos (sum_to (length net.arcs) (λ j. (inst.bound * goes_in s l j) * x j))
+      -ℤ pos (sum_to (length net.arcs) (λ j. (inst.bound * goes_in s l j) * x j))
   loop-sum x inst l loop =
       row-diff (loop_factor net.arcs (holds_of net l) inst) (comes s (s.header l)) (λ j. inst.bound * goes_in s l j) x
       (length net.arcs) (λ j u. loop-factor inst l j loop u)
@@ -197,21 +197,20 @@ module _ (net : Net) (depth headed : ℕ → ℕ) where
   loop-met : (x : ℕ → ℕ) (l : ℕ) → IsUpTo (length net.loops) l →
       IsMet x (loop_row net (holds_of net) l)
       ↔ (sum_to (length net.arcs) (λ j. comes s (s.header l) j * x j)
-          ≤ s.bound l * sum_to (length net.arcs) (λ j. goes_in s l j * x j))
+      ≤ s.bound l * sum_to (length net.arcs) (λ j. goes_in s l j * x j))
   loop-met x l u = let loop = loop-at net l u in by loop.item loop.there
     where
       by : (inst : LoopInst) → item_at l net.loops ≡ Some inst →
           IsMet x (loop_row net (holds_of net) l)
           ↔ (sum_to (length net.arcs) (λ j. comes s (s.header l) j * x j)
-              ≤ s.bound l * sum_to (length net.arcs) (λ j. goes_in s l j * x j))
+          ≤ s.bound l * sum_to (length net.arcs) (λ j. goes_in s l j * x j))
       by inst there =
           let bound : s.bound l ≡ inst.bound = ap bound_of there in
           let iff = less_sums (sum_to (length net.arcs) (λ j. comes s (s.header l) j * x j))
           (sum_to (length net.arcs) (λ j. (inst.bound * goes_in s l j) * x j))
           (row_sum x (loop_row_of net.arcs (holds_of net l) (Some inst)).terms) (loop-sum x inst l there) in
           let same = scaled x l inst.bound in
-          let product = ap (λ n. n * sum_to (length net.arcs) (λ j. goes_in s l j * x j)) bound in
-          (
+          let product = ap (λ n. n * sum_to (length net.arcs) (λ j. goes_in s l j * x j)) bound in (
             λ met. omega (
               arith,
               same,
@@ -256,8 +255,7 @@ pub feasible-kept : (net : Net) (price : ℕ → ℕ) (program : Program) (depth
     IsFeasible program x ↔ Keeps (shape_of net depth headed) x
 feasible-kept net price program depth headed x nested is some =
     let rows : program.rows ≡ rows_of net (holds_of net) =
-    is.rows ∙ ap (rows_of net) (holds-same net is.holds nested is.told) in
-    (
+    is.rows ∙ ap (rows_of net) (holds-same net is.holds nested is.told) in (
       λ feasible. (rows-kept net depth headed x some).0 (subst (All (IsMet x)) rows feasible),
       λ keeps. subst (All (IsMet x)) (sym rows) ((rows-kept net depth headed x some).1 keeps),
     )
@@ -270,7 +268,7 @@ value-table net price program depth headed j is u =
     value_at-arc net price program is j u
     ∙ (let arc = arc-at net j u in
     ap (arc_value price) arc.there
-    ∙ ap (λ (found : Option NetArc). pos (price (Rattle.flow_net.specs.Visits.target_of found))) (sym arc.there))
+    ∙ ap (λ (found : Option NetArc). pos (price (target_of found))) (sym arc.there))
 
 pub value-sum : (net : Net) (price : ℕ → ℕ) (program : Program) (depth headed : ℕ → ℕ) (x : ℕ → ℕ) →
     IsProgramOf net price program →
@@ -280,8 +278,8 @@ value-sum net price program depth headed x is =
     value_of-total program x (length-value net price program is)
     ∙ ap (λ (n : ℕ). total_to n (λ j. value_at program j *ℤ pos (x j))) is.columns
     ∙ total_to-same (λ j. value_at program j *ℤ pos (x j))
-        (λ j. pos (value_at_end (shape_of net depth headed) price j) *ℤ pos (x j)) (length net.arcs)
-        (λ j low high. ap (λ (z : ℤ). z *ℤ pos (x j)) (value-table net price program depth headed j is (low, high)))
+    (λ j. pos (value_at_end (shape_of net depth headed) price j) *ℤ pos (x j)) (length net.arcs)
+    (λ j low high. ap (λ (z : ℤ). z *ℤ pos (x j)) (value-table net price program depth headed j is (low, high)))
     ∙ total-pos (value_at_end (shape_of net depth headed) price) x (length net.arcs)
 
 -- The crude bound of the program is that of the tables.
@@ -297,7 +295,7 @@ crude-net net price program depth headed nested is deep =
     same : crude_of net is.holds price ≡ crude_of net (holds_of net) price
     same = ap (λ (holds : ℕ → ℕ → Bool). crude_of net holds price) (holds-same net is.holds nested is.told)
 
-    factor : (h : Bool) (b d : ℕ) → 1 ≤ d → cond h b 1 ≡ cond (h && Rattle.std.specs.Prelude.nat_lt 0 d) b 1
+    factor : (h : Bool) (b d : ℕ) → 1 ≤ d → cond h b 1 ≡ cond (h && nat_lt 0 d) b 1
     factor true b d low = grind (arith, nat_tests)
     factor false b d low = refl
 
@@ -308,5 +306,5 @@ crude-net net price program depth headed nested is deep =
         (λ p u. ap (λ n. price p * n)
         (product-same (length net.loops)
         (λ l. cond (holds_of net l p) (bound_of (item_at l net.loops)) 1)
-        (λ l. cond (holds_of net l p && Rattle.std.specs.Prelude.nat_lt 0 (depth l)) (bound_of (item_at l net.loops)) 1)
+        (λ l. cond (holds_of net l p && nat_lt 0 (depth l)) (bound_of (item_at l net.loops)) 1)
         (λ l v. factor (holds_of net l p) (bound_of (item_at l net.loops)) (depth l) (deep l v))))

@@ -1,12 +1,11 @@
 -- Levels are solved the deepest first, and what is solved stays so.
-use Rattle.std.proofs.Common.{◌≡◌, ◌⊎◌, ℕ, zero, suc, ◌+◌, ◌-◌, ◌*◌, ◌<◌, ◌≤◌, ◌==◌, ◌&&◌, cond, Bool, true, false, refl, sym, ap, ap₂, ◌∙◌, subst, inl, inr, arith, true≢false}
+use Rattle.std.proofs.Common.{◌≡◌, ◌⊎◌, ℕ, suc, ◌+◌, ◌-◌, ◌*◌, ◌<◌, ◌==◌, cond, Bool, true, false, refl, sym, ap, ◌∙◌, subst, inl, inr, arith, true≢false}
 use Rattle.std.proofs.lemmas.Bool.{cases_eq, cases_Bool, cond-false, cond-true}
 use Rattle.std.proofs.lemmas.Bool.Decides.{nat_tests}
-use Rattle.nest_solver.specs.Shape.{Shape, IsNest, IsUpTo, IsAhead, target, is_back, is_entering}
-use Rattle.nest_solver.specs.Shape.IsAhead.{start, along}
+use Rattle.nest_solver.specs.Shape.{Shape, IsNest, IsUpTo, target, is_entering}
 use Rattle.nest_solver.specs.Ways.{IsRound, IsSwept, closes, goes_on, reach}
 use Rattle.nest_solver.specs.Solved.{paid, weight_of, IsSolved, AreSolved, AreTurns}
-use Rattle.nest_solver.proofs.Arcs.{closes-out, closes-0, goes_on-out, goes_on-in, deeper, not_entering-0, not_back-0, back_not_entering, entering-of, back-of}
+use Rattle.nest_solver.proofs.Arcs.{closes-out, goes_on-out, deeper, not_entering-0, back_not_entering, entering-of, back-of}
 
 reach_by : (c g : Bool) (b : ℕ) → 0 < cond c 1 (cond g b 0) →
     (c ≡ true) ⊎ ((g ≡ true) × (cond c 1 (cond g b 0) ≡ b))
@@ -173,7 +172,7 @@ solved-none s value turns depth nest some small deep high =
   where
     nothing : (i : ℕ) → IsUpTo s.arcs i →
         ((closes s deep i ≡ true)
-            ⊎ ((goes_on s deep (λ p. 0) i ≡ true) × (reach s deep (λ p. 0) (λ p. 0) i ≡ 0))) → ⊥
+        ⊎ ((goes_on s deep (λ p. 0) i ≡ true) × (reach s deep (λ p. 0) (λ p. 0) i ≡ 0))) → ⊥
     nothing i u (inl c) = elim (closes-out s deep i c) as (λ _. ⊥) [
       | inl z ↦ omega (arith, z, high, some)
       | inr back ↦ omega (arith, back.2, high, small (target s i) (back-of s nest i back.1).up)
@@ -182,4 +181,3 @@ solved-none s value turns depth nest some small deep high =
       | inl z ↦ omega (arith, z, high, some)
       | inr in_loop ↦ omega (arith, in_loop)
     ]
-

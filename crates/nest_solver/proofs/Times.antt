@@ -1,10 +1,10 @@
 -- How often arcs stand in ways, as sums over all arcs.
-use Rattle.std.proofs.Common.{◌≡◌, ◌⊎◌, ℕ, zero, suc, ◌+◌, ◌-◌, ◌*◌, ◌<◌, ◌≤◌, ◌==◌, ◌&&◌, not, cond, Bool, true, false, List, [], ◌∷◌, sum_by, refl, sym, ap, ap₂, ◌∙◌, subst, inl, inr, arith, true≢false}
+use Rattle.std.proofs.Common.{◌≡◌, ℕ, ◌+◌, ◌-◌, ◌*◌, ◌==◌, List, [], ◌∷◌, sum_by, refl, sym, ap, ◌∙◌, arith}
 use Rattle.std.proofs.lemmas.Bool.Decides.{nat_tests}
 use Rattle.std.proofs.lemmas.List.Sums.{sum_by-cons}
 use Rattle.ipet_program.specs.Sums.{sum_to}
-use Rattle.nest_solver.specs.Shape.{Shape, IsNest, IsUpTo, target, is_back, is_entering}
-use Rattle.nest_solver.specs.Counted.{bit, times, enters, returns, entered, added, IsCounted}
+use Rattle.nest_solver.specs.Shape.{Shape, IsUpTo}
+use Rattle.nest_solver.specs.Counted.{bit, times, entered, added, IsCounted}
 use Rattle.nest_solver.proofs.Sums.{sum-same, sum-add, sum-scale, sum-none, sum-only, sum-swap}
 
 pub bit_same : (a b : ℕ) → a ≡ b → bit (a == b) ≡ 1
@@ -50,9 +50,9 @@ dot-added s f often ways inside =
     (λ i u. sym (sum-scale s.loops (f i) (λ l. ((s.bound l - 1) * often l) * times (ways l) i)))
     ∙ sum-swap s.arcs s.loops (λ i l. f i * (((s.bound l - 1) * often l) * times (ways l) i))
     ∙ sum-same s.loops
-        (λ l. sum_to s.arcs (λ i. f i * (((s.bound l - 1) * often l) * times (ways l) i)))
-        (λ l. ((s.bound l - 1) * often l) * sum_by f (ways l))
-        (λ l u. one l ∙ ap (λ n. ((s.bound l - 1) * often l) * n) (dot-times s.arcs f (ways l) (inside l u)))
+    (λ l. sum_to s.arcs (λ i. f i * (((s.bound l - 1) * often l) * times (ways l) i)))
+    (λ l. ((s.bound l - 1) * often l) * sum_by f (ways l))
+    (λ l u. one l ∙ ap (λ n. ((s.bound l - 1) * often l) * n) (dot-times s.arcs f (ways l) (inside l u)))
   where
     turn : (a m t : ℕ) → a * (m * t) ≡ m * (a * t)
     turn a m t = omega arith
@@ -80,4 +80,3 @@ dot-counted s f path ways counts inside all counted =
       dot-times s.arcs f path inside,
       dot-added s f (entered s counts) ways all,
     )
-

@@ -1,15 +1,14 @@
 -- Worths bound the value of all counts that keep the rows.
-use Rattle.std.proofs.Common.{◌≡◌, ◌⊎◌, ℕ, zero, suc, ◌+◌, ◌-◌, ◌*◌, ◌<◌, ◌≤◌, ◌==◌, ◌&&◌, not, cond, Bool, true, false, refl, sym, ap, ap₂, ◌∙◌, subst, inl, inr, arith, mul-le-mul_left, mul-le-mul_right, true≢false}
-use Rattle.std.proofs.lemmas.Bool.{cases_eq, cases_Bool, cases_lt}
+use Rattle.std.proofs.Common.{◌≡◌, ℕ, ◌+◌, ◌-◌, ◌*◌, ◌≤◌, ◌==◌, true, refl, sym, ap, ap₂, ◌∙◌, inl, inr, arith, mul-le-mul_left, mul-le-mul_right}
+use Rattle.std.proofs.lemmas.Bool.{cases_Bool, cases_lt}
 use Rattle.ipet_program.specs.Sums.{sum_to}
 use Rattle.nest_solver.specs.Shape.{Shape, IsNest, IsUpTo, target, is_back}
 use Rattle.nest_solver.specs.Solved.{weight_of, IsDual}
-use Rattle.nest_solver.specs.Counted.{bit, enters, returns, entered}
+use Rattle.nest_solver.specs.Counted.{bit, returns, entered}
 use Rattle.nest_solver.proofs.Sums.{sum-same, sum-le, sum-add, sum-scale, sum-none, sum-only, sum-swap}
 use Rattle.nest_solver.proofs.Times.{bit_same, bit_other}
-use Rattle.nest_solver.proofs.Arcs.{back-of, not_back_from-0}
-use Rattle.nest_solver.proofs.Along.{returns-none}
-use Rattle.nest_solver.proofs.Counting.{Keeps, comes, goes, goes_in, comes-split, entered-in, weight-counts, returns_other, and_true}
+use Rattle.nest_solver.proofs.Arcs.{back-of}
+use Rattle.nest_solver.proofs.Counting.{Keeps, comes, goes, comes-split, entered-in, weight-counts, returns_other, and_true}
 
 -- A value at a place as a sum over the places.
 pub spread : (places : ℕ) (v : ℕ → ℕ) (t : ℕ) → t ≤ places →
@@ -37,18 +36,18 @@ spread places v t high = elim (cases_lt 0 t)
 ends-sum : (s : Shape) (v x end : ℕ → ℕ) → ((i : ℕ) → IsUpTo s.arcs i → end i ≤ s.places) →
     sum_to s.arcs (λ i. v (end i) * x i)
     ≡ v 0 * sum_to s.arcs (λ i. bit (end i == 0) * x i)
-        + sum_to s.places (λ p. v p * sum_to s.arcs (λ i. bit (end i == p) * x i))
+    + sum_to s.places (λ p. v p * sum_to s.arcs (λ i. bit (end i == p) * x i))
 ends-sum s v x end high =
     sum-same s.arcs (λ i. v (end i) * x i)
     (λ i. v 0 * (bit (end i == 0) * x i) + sum_to s.places (λ p. v p * (bit (end i == p) * x i)))
     (λ i u. one i (high i u))
     ∙ sum-add s.arcs (λ i. v 0 * (bit (end i == 0) * x i))
-        (λ i. sum_to s.places (λ p. v p * (bit (end i == p) * x i)))
+    (λ i. sum_to s.places (λ p. v p * (bit (end i == p) * x i)))
     ∙ ap₂ (λ a b. a + b) (sum-scale s.arcs (v 0) (λ i. bit (end i == 0) * x i))
-        (sum-swap s.arcs s.places (λ i p. v p * (bit (end i == p) * x i))
-        ∙ sum-same s.places (λ p. sum_to s.arcs (λ i. v p * (bit (end i == p) * x i)))
-            (λ p. v p * sum_to s.arcs (λ i. bit (end i == p) * x i))
-            (λ p u. sum-scale s.arcs (v p) (λ i. bit (end i == p) * x i)))
+    (sum-swap s.arcs s.places (λ i p. v p * (bit (end i == p) * x i))
+    ∙ sum-same s.places (λ p. sum_to s.arcs (λ i. v p * (bit (end i == p) * x i)))
+    (λ p. v p * sum_to s.arcs (λ i. bit (end i == p) * x i))
+    (λ p u. sum-scale s.arcs (v p) (λ i. bit (end i == p) * x i)))
   where
     first : (a b y : ℕ) → (a * b) * y ≡ b * (a * y)
     first a b y = omega arith
@@ -82,8 +81,8 @@ pub ends-same : (s : Shape) (v x : ℕ → ℕ) → IsNest s → Keeps s x →
 ends-same s v x nest keeps =
     ends-sum s v x s.to nest.ends
     ∙ ap₂ (λ a b. v 0 * a + b) (zero-flow s x nest keeps)
-        (sum-same s.places (λ p. v p * sum_to s.arcs (λ i. comes s p i * x i))
-        (λ p. v p * sum_to s.arcs (λ i. goes s p i * x i)) (λ p u. ap (λ n. v p * n) (keeps.kept p u)))
+    (sum-same s.places (λ p. v p * sum_to s.arcs (λ i. comes s p i * x i))
+    (λ p. v p * sum_to s.arcs (λ i. goes s p i * x i)) (λ p u. ap (λ n. v p * n) (keeps.kept p u)))
     ∙ sym (ends-sum s v x s.from nest.starts)
 
 -- What back arcs are given.
@@ -110,8 +109,8 @@ given-sum s turns x =
     ))
     ∙ sum-swap s.arcs s.loops (λ i l. turns l * (bit (returns s l i) * x i))
     ∙ sum-same s.loops (λ l. sum_to s.arcs (λ i. turns l * (bit (returns s l i) * x i)))
-        (λ l. turns l * sum_to s.arcs (λ i. bit (returns s l i) * x i))
-        (λ l u. sum-scale s.arcs (turns l) (λ i. bit (returns s l i) * x i))
+    (λ l. turns l * sum_to s.arcs (λ i. bit (returns s l i) * x i))
+    (λ l u. sum-scale s.arcs (turns l) (λ i. bit (returns s l i) * x i))
   where
     turn : (y t b : ℕ) → y * (t * b) ≡ t * (b * y)
     turn y t b = omega arith
@@ -147,18 +146,18 @@ arc-pays s weight turns v depth i nest dual low u =
             ap (λ b. b * (weight i + v (s.to i))) (bit_same (s.from i) 0 z),
           )
       | inl some ↦
-        let other = ap (λ b. b * v 0) (bit_other (s.from i) 0 (λ e. omega (arith, e, some))) in
-        elim (cases_Bool (is_back s i))
-        as (λ _. weight i + v (s.to i) + bit (s.from i == 0) * v 0
-            ≤ v (s.from i) + given s turns i + first_pays s weight v i) [
-          | inr forward ↦ omega (arith, other, dual.forward i u some forward)
-          | inl back ↦ omega (
-            arith,
-            other,
-            dual.back i u back (low (target s i) (back-of s nest i back).up),
-            given-back s turns i nest back,
-          )
-        ]
+          let other = ap (λ b. b * v 0) (bit_other (s.from i) 0 (λ e. omega (arith, e, some))) in
+          elim (cases_Bool (is_back s i))
+          as (λ _. weight i + v (s.to i) + bit (s.from i == 0) * v 0
+          ≤ v (s.from i) + given s turns i + first_pays s weight v i) [
+            | inr forward ↦ omega (arith, other, dual.forward i u some forward)
+            | inl back ↦ omega (
+              arith,
+              other,
+              dual.back i u back (low (target s i) (back-of s nest i back).up),
+              given-back s turns i nest back,
+            )
+          ]
     ]
 
 -- The value of counts that keep the rows is at most what the worths show.
@@ -228,10 +227,10 @@ weak s value turns v x depth nest dual low keeps =
 
     left_is : sum_to s.arcs (λ i. (w i + v (s.to i) + bit (s.from i == 0) * v 0) * x i)
         ≡ sum_to s.arcs (λ i. w i * x i) + sum_to s.arcs (λ i. v (s.to i) * x i)
-            + sum_to s.arcs (λ i. (bit (s.from i == 0) * v 0) * x i)
+        + sum_to s.arcs (λ i. (bit (s.from i == 0) * v 0) * x i)
     left_is = three w (λ i. v (s.to i)) (λ i. bit (s.from i == 0) * v 0)
 
     right_is : sum_to s.arcs (λ i. (v (s.from i) + given s turns i + first_pays s w v i) * x i)
         ≡ sum_to s.arcs (λ i. v (s.from i) * x i) + sum_to s.arcs (λ i. given s turns i * x i)
-            + sum_to s.arcs (λ i. first_pays s w v i * x i)
+        + sum_to s.arcs (λ i. first_pays s w v i * x i)
     right_is = three (λ i. v (s.from i)) (given s turns) (first_pays s w v)

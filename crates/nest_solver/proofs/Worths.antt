@@ -1,13 +1,12 @@
 -- Worths of places: those of the run, and those raised by the loops of one depth after the other.
-use Rattle.std.proofs.Common.{◌≡◌, ◌⊎◌, ℕ, zero, suc, ◌+◌, ◌-◌, ◌*◌, ◌<◌, ◌≤◌, ◌==◌, ◌&&◌, nat_lt, cond, max, Bool, true, false, refl, sym, ap, ◌∙◌, subst, inl, inr, arith, true≢false, mul-le-mul_left}
-use Rattle.std.proofs.lemmas.Bool.{cases_eq, cases_Bool, cases_lt, cond-false, cond-true}
+use Rattle.std.proofs.Common.{◌≡◌, ◌⊎◌, ℕ, ◌+◌, ◌-◌, ◌*◌, ◌<◌, ◌≤◌, ◌==◌, ◌&&◌, nat_lt, cond, max, Bool, false, refl, sym, ap, ◌∙◌, subst, inl, inr, arith, true≢false, mul-le-mul_left}
+use Rattle.std.proofs.lemmas.Bool.{cases_lt}
 use Rattle.std.proofs.lemmas.Bool.Decides.{nat_tests}
-use Rattle.nest_solver.specs.Shape.{Shape, IsNest, IsUpTo, IsRising, target, is_back, is_entering}
-use Rattle.nest_solver.specs.Ways.{IsRound, IsSwept, closes, goes_on, reach}
+use Rattle.nest_solver.specs.Shape.{Shape, IsNest, IsUpTo, IsRising, target, is_back}
+use Rattle.nest_solver.specs.Ways.{IsRound, IsSwept, reach}
 use Rattle.nest_solver.specs.Solved.{IsDual, base_shift, base_worth, lifted}
-use Rattle.nest_solver.proofs.Arcs.{back-of, closes-0, closes-back, goes_on-in, not_back-0}
+use Rattle.nest_solver.proofs.Arcs.{back-of, closes-0, goes_on-in}
 use Rattle.nest_solver.proofs.Solving.{reach-closes, reach-goes}
-use Rattle.nest_solver.proofs.Forward.{live-up}
 
 -- The three kinds of worth of a base.
 base_zero : (p shift live dead : ℕ) (b : Bool) → p ≡ 0 → cond (p == 0) (shift + 1) (cond b live dead) ≡ shift + 1
@@ -82,20 +81,20 @@ pub base-dual : (s : Shape) (step : ℕ) (rank round weight best choice turns : 
 base-dual s step rank round weight best choice turns nest rises high small swept =
     record {
       forward = λ i u low forward. elim (cases_lt 0 (s.to i))
-      as (λ _. weight i + base_worth s step rank best (s.to i) ≤ base_worth s step rank best (s.from i)) [
-        | inr z ↦ let end : s.to i ≡ 0 = omega (arith, z) in
-          let is = reach-closes s 0 round best i (closes-0 s i end) in
-          live_step s nest step rank round weight best choice turns swept i u low forward (omega (arith, is))
-          (ap (base_worth s step rank best) end ∙ omega (arith, is))
-        | inl to_low ↦ elim (cases_lt 0 (best (s.to i)))
           as (λ _. weight i + base_worth s step rank best (s.to i) ≤ base_worth s step rank best (s.from i)) [
-            | inl some ↦
-              let is = reach-goes s 0 round best i (goes_on-in s 0 round i low to_low forward (inl refl)) in
-              live_step s nest step rank round weight best choice turns swept i u low forward (omega (arith, is, some))
-              (omega (arith, is, base-live s step rank best (s.to i) to_low some))
-            | inr dead ↦ dead_step s step rank weight best rises high small i u low to_low forward (omega (arith, dead))
-          ]
-      ];
+            | inr z ↦ let end : s.to i ≡ 0 = omega (arith, z) in
+                let is = reach-closes s 0 round best i (closes-0 s i end) in
+                live_step s nest step rank round weight best choice turns swept i u low forward (omega (arith, is))
+                (ap (base_worth s step rank best) end ∙ omega (arith, is))
+            | inl to_low ↦ elim (cases_lt 0 (best (s.to i)))
+                as (λ _. weight i + base_worth s step rank best (s.to i) ≤ base_worth s step rank best (s.from i)) [
+                  | inl some ↦
+                      let is = reach-goes s 0 round best i (goes_on-in s 0 round i low to_low forward (inl refl)) in
+                      live_step s nest step rank round weight best choice turns swept i u low forward (omega (arith, is, some))
+                      (omega (arith, is, base-live s step rank best (s.to i) to_low some))
+                  | inr dead ↦ dead_step s step rank weight best rises high small i u low to_low forward (omega (arith, dead))
+                ]
+          ];
       back = λ i u e d. absurd (omega (arith, d, nest.deep (target s i) (back-of s nest i e).up));
     }
 
@@ -110,17 +109,17 @@ lifted_cases : (a b v x : ℕ) → (cond (nat_lt 0 a && nat_lt 0 b) (max v x) v 
     ⊎ ((0 < a) × (0 < b) × (cond (nat_lt 0 a && nat_lt 0 b) (max v x) v ≡ x))
 lifted_cases a b v x = elim (cases_lt 0 a) as (λ _. (cond (nat_lt 0 a && nat_lt 0 b) (max v x) v ≡ v)
     ⊎ ((0 < a) × (0 < b) × (cond (nat_lt 0 a && nat_lt 0 b) (max v x) v ≡ x))) [
-  | inr none ↦ inl (grind (arith, nat_tests))
-  | inl some ↦ elim (cases_lt 0 b) as (λ _. (cond (nat_lt 0 a && nat_lt 0 b) (max v x) v ≡ v)
-      ⊎ ((0 < a) × (0 < b) × (cond (nat_lt 0 a && nat_lt 0 b) (max v x) v ≡ x))) [
-    | inr none ↦ inl (grind (arith, nat_tests))
-    | inl also ↦ elim (cases_lt v x) as (λ _. (cond (nat_lt 0 a && nat_lt 0 b) (max v x) v ≡ v)
-        ⊎ ((0 < a) × (0 < b) × (cond (nat_lt 0 a && nat_lt 0 b) (max v x) v ≡ x))) [
-      | inl less ↦ inr (some, also, grind (arith, nat_tests))
-      | inr more ↦ inl (grind (arith, nat_tests))
+      | inr none ↦ inl (grind (arith, nat_tests))
+      | inl some ↦ elim (cases_lt 0 b) as (λ _. (cond (nat_lt 0 a && nat_lt 0 b) (max v x) v ≡ v)
+          ⊎ ((0 < a) × (0 < b) × (cond (nat_lt 0 a && nat_lt 0 b) (max v x) v ≡ x))) [
+            | inr none ↦ inl (grind (arith, nat_tests))
+            | inl also ↦ elim (cases_lt v x) as (λ _. (cond (nat_lt 0 a && nat_lt 0 b) (max v x) v ≡ v)
+                ⊎ ((0 < a) × (0 < b) × (cond (nat_lt 0 a && nat_lt 0 b) (max v x) v ≡ x))) [
+                  | inl less ↦ inr (some, also, grind (arith, nat_tests))
+                  | inr more ↦ inl (grind (arith, nat_tests))
+                ]
+          ]
     ]
-  ]
-]
 
 -- What a place is raised to.
 abbrev pub raise : (s : Shape) (round best turns worth : ℕ → ℕ) → ℕ → ℕ
@@ -138,7 +137,7 @@ lifted-in s round best turns worth p h k =
 pub lifted-cases : (s : Shape) (round best turns worth : ℕ → ℕ) (p : ℕ) →
     (lifted s round best turns worth p ≡ worth p)
     ⊎ ((0 < round p) × (0 < best p)
-        × (lifted s round best turns worth p ≡ raise s round best turns worth p))
+    × (lifted s round best turns worth p ≡ raise s round best turns worth p))
 lifted-cases s round best turns worth p =
     lifted_cases (round p) (best p) (worth p) (raise s round best turns worth p)
 
@@ -152,14 +151,14 @@ lift-header s depth round best turns worth nest rounds turned l u deep =
     as (λ _. lifted s round best turns worth (s.header l) ≡ worth (s.header l)) [
       | inl same ↦ same
       | inr up ↦
-        let is : round (s.header l) ≡ l = rounds.all l (s.header l) u deep (nest.held l u) in
-        omega (
-          arith,
-          up,
-          ap turns is,
-          ap (λ k. worth (s.header k)) is,
-          turned l u deep,
-        )
+          let is : round (s.header l) ≡ l = rounds.all l (s.header l) u deep (nest.held l u) in
+          omega (
+            arith,
+            up,
+            ap turns is,
+            ap (λ k. worth (s.header k)) is,
+            turned l u deep,
+          )
     ]
 
 -- So does place 0, and so does the place to which arc 1 goes.
@@ -179,13 +178,13 @@ lift-entry s depth round best turns worth nest rounds turned =
     as (λ _. lifted s round best turns worth (s.to 1) ≡ worth (s.to 1)) [
       | inl same ↦ same
       | inr up ↦
-        let here = rounds.here (s.to 1) up.0 in
-        let header : s.to 1 ≡ s.header (round (s.to 1)) =
-        nest.entering 1 (round (s.to 1)) (omega (arith, nest.some)) here.0
-        (subst (λ (p : ℕ). s.holds (round (s.to 1)) p ≡ false) (sym nest.first) (nest.outside (round (s.to 1))))
-        here.2 in
-        subst (λ (p : ℕ). lifted s round best turns worth p ≡ worth p) (sym header)
-        (lift-header s depth round best turns worth nest rounds turned (round (s.to 1)) here.0 here.1)
+          let here = rounds.here (s.to 1) up.0 in
+          let header : s.to 1 ≡ s.header (round (s.to 1)) =
+          nest.entering 1 (round (s.to 1)) (omega (arith, nest.some)) here.0
+          (subst (λ (p : ℕ). s.holds (round (s.to 1)) p ≡ false) (sym nest.first) (nest.outside (round (s.to 1))))
+          here.2 in
+          subst (λ (p : ℕ). lifted s round best turns worth p ≡ worth p) (sym header)
+          (lift-header s depth round best turns worth nest rounds turned (round (s.to 1)) here.0 here.1)
     ]
 
 pub lift-small : (s : Shape) (round best turns worth : ℕ → ℕ) (most limit : ℕ) →

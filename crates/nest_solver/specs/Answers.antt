@@ -9,6 +9,7 @@ use Rattle.ipet_program.specs.declared.program.Program.{Program}
 use Rattle.nest_solver.specs.Shape.{Shape}
 use Rattle.nest_solver.specs.Solved.{IsDual}
 
+-- (`leaf-greatest` of proofs/Answering.antt gives it from the tables of all levels, `counts-greatest` the counts.)
 -- The leaf shows, with whole multipliers, a bound that some counts reach: the greatest value. Row 1 has the bound
 -- for its multiplier.
 pub record ShowsGreatest (program : Program) (leaf : Leaf) : Type 0 where

@@ -29,7 +29,9 @@ entered s counts l = sum_to s.arcs (λ i. bit (enters s l i) * counts i)
 abbrev pub added : Shape → (often : ℕ → ℕ) → (ways : ℕ → List ℕ) → ℕ → ℕ
 added s often ways i = sum_to s.loops (λ l. ((s.bound l - 1) * often l) * times (ways l) i)
 
--- The counts are those of the way out and of the turns. A loop that isn't put back yet has no way.
+-- The counts are those of the way out and of the turns. A loop that isn't put back yet has no way. (Such counts keep
+-- the rows, and with all loops put back their value is what the way out weighs: `counted-keeps` and `counted-value`
+-- of proofs/Counting.antt.)
 abbrev pub IsCounted : Shape → (path : List ℕ) → (ways : ℕ → List ℕ) → (counts : ℕ → ℕ) → Type 0
 IsCounted s path ways counts =
     (i : ℕ) → IsUpTo s.arcs i → counts i ≡ times path i + added s (entered s counts) ways i
@@ -56,7 +58,7 @@ pub record AreWays (s : Shape) (weight turns : ℕ → ℕ) (depth : ℕ) (ways 
       ((ways l ≡ []) × (turns l ≡ 0)) ⊎ IsTurn s weight l (turns l) (ways l)
   pub later : (l : ℕ) → IsUpTo s.loops l → depth < s.depth l → ways l ≡ []
 
--- Counts with the turns of the loops of one depth added.
+-- Counts with the turns of the loops of one depth added. (`counted-level` of proofs/PutBack.antt)
 abbrev pub put_back : Shape → (often : ℕ → ℕ) → (ways : ℕ → List ℕ) → (counts : ℕ → ℕ) → ℕ → ℕ
 put_back s often ways counts i = counts i + added s often ways i
 

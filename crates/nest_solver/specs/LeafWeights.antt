@@ -1,5 +1,5 @@
 -- The multipliers of the rows of a net's program.
-use Rattle.std.specs.Prelude.{◌≡◌, ℕ, zero, suc, ◌+◌, ◌-◌, ◌*◌, ◌^◌, ◌<◌, ◌≤◌, ◌==◌, nat_le, ℤ, pos, negsuc, ◌-ℤ◌, List, [], ◌∷◌, ◌++◌, false, if◌then◌else◌}
+use Rattle.std.specs.Prelude.{◌≡◌, ℕ, zero, suc, ◌+◌, ◌-◌, ◌*◌, ◌^◌, ◌≤◌, ◌==◌, nat_le, ℤ, pos, ◌-ℤ◌, List, [], ◌∷◌, ◌++◌, false, if◌then◌else◌}
 use Rattle.ipet_program.specs.declared.leaf.Leaf.{Leaf}
 use Rattle.ipet_program.specs.declared.leaf.Weight.{Weight}
 use Rattle.nest_solver.specs.Shape.{Shape, IsUpTo}
@@ -28,7 +28,8 @@ pub record AreSmall (s : Shape) (total : ℕ) (worth turns : ℕ → ℕ) : Type
   pub worths : (p : ℕ) → worth p ≤ 2 ^ 120
   pub turned : (l : ℕ) → IsUpTo s.loops l → turns l * (s.bound l + 1) ≤ 2 ^ 120
 
--- The leaf has the multipliers of these worths and turns.
+-- The leaf has the multipliers of these worths and turns. (`leaf-shows` of proofs/LeafLaw.antt: it is valid, and
+-- shows the total.)
 pub record IsLeafOf (s : Shape) (total : ℕ) (worth turns : ℕ → ℕ) (leaf : Leaf) : Type 0 where
   pub denom : leaf.denom ≡ pos 1
   pub shows : leaf.empty ≡ false

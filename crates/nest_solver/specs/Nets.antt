@@ -86,7 +86,7 @@ pub record AreUp (net : Net) (depths : ℕ → ℕ) (depth : ℕ) (up : ℕ → 
   pub run : up 0 ≡ 0
   pub outward : (scope : ℕ) (inst : LoopInst) → item_at scope net.loops ≡ Some inst →
       up scope ≡ (if depths scope == depth then scope
-          else (if nat_lt depth (depths scope) then up inst.outer else 0))
+      else (if nat_lt depth (depths scope) then up inst.outer else 0))
 
 -- Of each place the loop of that depth that is round it. (`round-up` of proofs/NetShape.antt)
 abbrev pub round_by : Net → (up : ℕ → ℕ) → ℕ → ℕ

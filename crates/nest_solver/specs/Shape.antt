@@ -43,7 +43,8 @@ pub data IsAhead (s : Shape) : ℕ → Type 0 where
   along : (i : ℕ) → IsUpTo s.arcs i → 0 < s.from i → is_back s i ≡ false → IsAhead s (s.from i) →
       IsAhead s (s.to i)
 
--- The loops are nested, and each is entered at its header alone.
+-- The loops are nested, and each is entered at its header alone. (The plain tables of a nested net are a nest:
+-- `shape-nest` of proofs/NetShape.antt.)
 pub record IsNest (s : Shape) : Type 0 where
   pub some : 1 ≤ s.arcs
   pub first : s.from 1 ≡ 0

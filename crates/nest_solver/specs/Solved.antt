@@ -1,6 +1,6 @@
 -- Loops taken together by depth, the deepest first: how much the longest turn of each loop weighs, and
 -- what an arc that enters it then weighs.
-use Rattle.std.specs.Prelude.{◌≡◌, ℕ, suc, ◌+◌, ◌-◌, ◌*◌, ◌<◌, ◌≤◌, ◌==◌, ◌&&◌, nat_lt, max, true, false, if◌then◌else◌}
+use Rattle.std.specs.Prelude.{◌≡◌, ℕ, ◌+◌, ◌-◌, ◌*◌, ◌<◌, ◌≤◌, ◌==◌, ◌&&◌, nat_lt, max, true, false, if◌then◌else◌}
 use Rattle.nest_solver.specs.Shape.{Shape, IsUpTo, target, is_back, is_entering}
 use Rattle.nest_solver.specs.Ways.{IsRound, IsSwept}
 
@@ -22,7 +22,8 @@ pub record IsSolved (s : Shape) (value turns : ℕ → ℕ) (depth : ℕ) : Type
   pub swept : IsSwept s depth round (weight_of s value turns) best choice
   pub turned : (l : ℕ) → IsUpTo s.loops l → s.depth l ≡ depth → turns l ≡ best (s.header l) - 1
 
--- The loops of this depth and of all greater ones are solved.
+-- The loops of this depth and of all greater ones are solved. (They stay so when those of a smaller depth are:
+-- `solved-level` of proofs/Solving.antt.)
 abbrev pub AreSolved : Shape → (value turns : ℕ → ℕ) → (depth : ℕ) → Type 0
 AreSolved s value turns depth = (deeper : ℕ) → depth ≤ deeper → IsSolved s value turns deeper
 
@@ -33,7 +34,8 @@ AreTurns s depth best before after =
     after l ≡ (if s.depth l == depth then best (s.header l) - 1 else before l)
 
 -- Worths of places: along each arc the worth falls by at least the arc's weight. A back arc may use up
--- its loop's turn; those of loops deeper than `depth` aren't asked.
+-- its loop's turn; those of loops deeper than `depth` aren't asked. (`weak` of proofs/Weak.antt: worths that ask all
+-- back arcs bound the value of all counts that the rows allow.)
 pub record IsDual (s : Shape) (weight turns : ℕ → ℕ) (depth : ℕ) (worth : ℕ → ℕ) : Type 0 where
   pub forward : (i : ℕ) → IsUpTo s.arcs i → 0 < s.from i → is_back s i ≡ false →
       weight i + worth (s.to i) ≤ worth (s.from i)
@@ -51,7 +53,8 @@ base_worth s step rank best p =
     else (if nat_lt 0 (best p) then base_shift s step + best p else step * (s.arcs - rank p))
 
 -- Worths raised by the loops of one depth: a place with a way back to its loop's header is worth at
--- least that way and the header, less the loop's turn.
+-- least that way and the header, less the loop's turn. (`lift-dual` of proofs/Lifting.antt: so they take the back arcs
+-- of that depth.)
 abbrev pub lifted : Shape → (round best turns worth : ℕ → ℕ) → ℕ → ℕ
 lifted s round best turns worth p =
     if nat_lt 0 (round p) && nat_lt 0 (best p)

@@ -27,6 +27,8 @@ abbrev pub reach : Shape → (depth : ℕ) → (round best : ℕ → ℕ) → �
 reach s depth round best i =
     if closes s depth i then 1 else (if goes_on s depth round i then best (s.to i) else 0)
 
+-- Two sweeps of one depth with the same weights find the same (`swept-same` of proofs/Forward.antt), and from each
+-- place with a known way such a way goes (`longest` there).
 -- Of each place 1 more than the weight of the longest way from there, 0 where there is none, and the
 -- first arc of such a way.
 pub record IsSwept (s : Shape) (depth : ℕ) (round weight best choice : ℕ → ℕ) : Type 0 where
@@ -44,9 +46,10 @@ IsWay s depth round from [] = ⊥
 IsWay s depth round from (i ∷ more) =
     IsUpTo s.arcs i × (s.from i ≡ from)
     × (((closes s depth i ≡ true) × (more ≡ []))
-        ⊎ ((goes_on s depth round i ≡ true) × IsWay s depth round (s.to i) more))
+    ⊎ ((goes_on s depth round i ≡ true) × IsWay s depth round (s.to i) more))
 
--- What a way of the depth may weigh from each place on, with weights that fit 64 bits.
+-- What a way of the depth may weigh from each place on, at most the limit. (`room-level` of proofs/Room.antt: so
+-- much room there is under the crude bound.)
 pub record HasRoom (s : Shape) (depth : ℕ) (round weight : ℕ → ℕ) (limit : ℕ) : Type 0 where
   pub most : ℕ → ℕ
   pub small : (p : ℕ) → most p ≤ limit
