@@ -206,3 +206,20 @@ levels-none s price weight turns depth nest some crude small fresh values = reco
         paid-some s turns i into ∙ ap (λ (r : ℕ). (s.bound (target s i) - 1) * r) (fresh (target s i)),
       )
     ]
+
+-- Once all levels are solved the ways of each depth have room.
+pub levels-roomy_all : (s : Shape) (price weight turns : ℕ → ℕ) (depth : ℕ) → IsNest s →
+    AreLevels s price weight turns 1 → IsRoomy s weight depth
+levels-roomy_all s price weight turns depth nest levels = record {
+    room = λ round rounds. same round (room-level s price turns round depth crude_limit nest levels.crude
+        (λ deep high. levels.solved deep (omega (arith, high))) rounds);
+  }
+  where
+    same : (round : ℕ → ℕ) → HasRoom s depth round (weight_of s (value_at_end s price) turns) crude_limit →
+        HasRoom s depth round weight crude_limit
+    same round room = record {
+      most = room.most;
+      small = room.small;
+      ends = λ i u c. omega (arith, levels.weights i u, room.ends i u c);
+      goes = λ i u on. omega (arith, levels.weights i u, room.goes i u on);
+    }

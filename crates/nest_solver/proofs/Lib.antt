@@ -44,3 +44,5 @@ pub mod Best
 pub mod Answering
 pub mod Following
 pub mod Latest
+pub mod Raising
+pub mod WorthLevels

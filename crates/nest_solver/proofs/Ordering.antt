@@ -6,6 +6,7 @@ use Rattle.ipet_program.specs.Sums.{sum_to}
 use Rattle.nest_solver.specs.Counted.{bit}
 use Rattle.nest_solver.specs.Orders.{Arcs, AreAcyclic, AreOpen, IsOrder, IsQueue, is_pending, waits}
 use Rattle.nest_solver.specs.Shape.{IsUpTo}
+use Rattle.nest_solver.proofs.Queues.{queue-short}
 use Rattle.nest_solver.proofs.Sums.{sum-none, sum-part}
 
 and_none : (x y : ℕ) (b : Bool) → (x ≡ y → b ≡ false) → bit ((x == y) && b) ≡ 0
@@ -69,6 +70,7 @@ pub queue-order : (a : Arcs) (places : ℕ) (order : List ℕ) (place left : ℕ
 queue-order a places order place left first low q acyclic queue kept enough wide = record {
     up = queue.up;
     told = queue.told;
+    short = queue-short a order place left (length order) queue;
     all = λ i u. (omega (arith, in_queue i u), queue.most i u);
     there = λ i u. queue.there i u (in_queue i u);
     behind = λ i j u v forward goes same. (queue.behind i j u v (in_queue i u) forward goes same).1;

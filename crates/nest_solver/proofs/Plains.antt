@@ -2,13 +2,13 @@
 use Rattle.std.proofs.Common.{◌≡◌, ℕ, ◌+◌, ◌-◌, ◌<◌, ◌≤◌, Bool, false, List, length, get_or, sym, ap, subst, ◌∙◌, arith}
 use Rattle.flow_net.specs.Nested.{IsNested}
 use Rattle.flow_net.specs.declared.net.Net.{Net}
-use Rattle.nest_solver.specs.Nets.{HasDepths, HasHeaders, entry, shape_of}
+use Rattle.nest_solver.specs.Nets.{HasDepths, HasHeaders, entry, round_by, shape_of}
 use Rattle.nest_solver.specs.Orders.{AreAcyclic, arcs_of}
-use Rattle.nest_solver.specs.Plain.{AreTables, plain}
+use Rattle.nest_solver.specs.Plain.{AreTables, IsUpSomewhere, plain}
 use Rattle.nest_solver.specs.Shape.{IsNest, IsUpTo, is_back}
 use Rattle.nest_solver.specs.Tables.{AreBacks, test_at}
 use Rattle.nest_solver.specs.declared.tables.Tables.{Tables}
-use Rattle.nest_solver.proofs.NetShape.{shape-nest}
+use Rattle.nest_solver.proofs.NetShape.{round-up, shape-nest}
 use Rattle.nest_solver.proofs.Puts.{entry-read}
 use Rattle.nest_solver.proofs.Sweeping.{AreBehind}
 
@@ -50,3 +50,11 @@ tables-behind net tables are = record {
       ∙ ap (λ (k : ℕ). entry tables.order.arcs.items (k - 1)) same ∙ are.order.there j v;
   some = λ i u. omega (arith, are.order.all i u);
 }
+
+-- The loop round a place is a loop of the depth.
+pub round-here : (net : Net) (tables : Tables) (up : ℕ → ℕ) (place scope : ℕ) → IsNested net → AreTables net tables →
+    IsUpSomewhere net tables up → scope ≡ round_by net up place → (scope ≡ 0 → ⊥) → IsUpTo (length net.loops) scope
+round-here net tables up place scope nested are somewhere is some =
+    subst (λ (l : ℕ). IsUpTo (length net.loops) l) (sym is)
+    ((round-up net (entry tables.scopes.depths.items) (entry tables.headed.items) somewhere.depth up nested
+    are.scopes.depths somewhere.are).here place (omega (arith, is, some))).0

@@ -33,6 +33,7 @@ arcs_of net backs =
 pub record IsOrder (a : Arcs) (order : List ℕ) (place : ℕ → ℕ) : Type 0 where
   pub up : (k : ℕ) → k < length order → IsUpTo a.count (entry order k)
   pub told : (k : ℕ) → k < length order → place (entry order k) ≡ k + 1
+  pub short : length order ≤ a.count
   pub all : (i : ℕ) → IsUpTo a.count i → IsUpTo (length order) (place i)
   pub there : (i : ℕ) → IsUpTo a.count i → entry order (place i - 1) ≡ i
   pub behind : (i j : ℕ) → IsUpTo a.count i → IsUpTo a.count j → a.back i ≡ false → 0 < a.to i →

@@ -2,11 +2,9 @@
 
 ghost use Rattle.std.specs.Prelude.{◌≡◌, ℕ, ◌+◌, ◌^◌, ◌<◌, ◌≤◌, IfOk, length};
 ghost use Rattle.flow_net.specs.Nested.{IsNested};
-ghost use Rattle.nest_solver.specs.Bases.{AreLatest, base_by, rank_by};
+ghost use Rattle.nest_solver.specs.Bases.{AreRanks, base_by};
 ghost use Rattle.nest_solver.specs.Nets.{entry};
-ghost use Rattle.nest_solver.specs.Orders.{arcs_of};
-ghost use Rattle.nest_solver.specs.Plain.{AreTables, plain};
-ghost use Rattle.nest_solver.specs.Shape.{IsRising};
+ghost use Rattle.nest_solver.specs.Plain.{AreTables};
 ghost use Rattle.nest_solver.specs.Tables.{IsFew};
 
 use crate::reads::source;
@@ -24,8 +22,7 @@ fn note_latest(net: &Net, tables: &Tables, latest: &mut [usize])
     requires tables { AreTables net.now tables.now }
     requires room { length latest.old ≡ length net.now.places + 1 }
     requires fresh { (p : ℕ) → entry latest.old p ≡ 0 }
-    ensures latest { AreLatest (arcs_of net.now tables.now.backs.items) (entry tables.now.order.positions.items)
-        (entry latest.new) (length tables.now.order.arcs.items) }
+    ensures ranks { AreRanks net.now tables.now (entry latest.new) }
 {
     for at in 0..tables.order.arcs.len() {
         let arc = tables.order.arcs[at];
@@ -39,8 +36,7 @@ pub fn latest_of(alloc: Global, net: &Net, tables: &Tables) -> Result<Vec<usize>
     requires few { IsFew net.now }
     requires tables { AreTables net.now tables.now }
     ensures count { IfOk result (λ latest. length latest.items ≡ length net.now.places + 1) }
-    ensures small { IfOk result (λ latest. (p : ℕ) → entry latest.items p ≤ length net.now.arcs) }
-    ensures rises { IfOk result (λ latest. IsRising (plain net.now tables.now) (rank_by net.now (entry latest.items))) }
+    ensures ranks { IfOk result (λ latest. AreRanks net.now tables.now (entry latest.items)) }
 {
     let mut latest = vec![in alloc; 0; net.places.as_slice().len() + 1]?;
     note_latest(net, tables, &mut latest);
