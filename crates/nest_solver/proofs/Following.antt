@@ -1,15 +1,17 @@
 -- The arcs chosen from a place on are a longest way from there.
-use Rattle.std.proofs.Common.{◌≡◌, ◌⊎◌, ℕ, suc, ◌+◌, ◌*◌, ◌^◌, ◌<◌, ◌≤◌, ◌==◌, Bool, true, false, List, [], ◌∷◌, ◌++◌, sum_by, refl, sym, ap, ◌∙◌, subst, inl, inr, arith, true≢false, append_assoc, mul-le-mul_left}
-use Rattle.std.proofs.lemmas.Bool.{cases_Bool}
+use Rattle.std.proofs.Common.{◌≡◌, ◌⊎◌, ℕ, suc, ◌+◌, ◌*◌, ◌^◌, ◌<◌, ◌≤◌, ◌==◌, Bool, true, false, List, [], ◌∷◌, ◌++◌, sum_by, refl, sym, ap, ◌∙◌, subst, inl, inr, arith, true≢false, append_assoc, mul-le-mul_left, length, set}
+use Rattle.std.proofs.lemmas.Bool.{cases_Bool, cases_eq}
 use Rattle.std.proofs.lemmas.List.Sums.{sum_by-cons}
-use Rattle.nest_solver.specs.Shape.{Shape, IsNest, IsUpTo}
+use Rattle.nest_solver.specs.Shape.{Shape, IsNest, IsUpTo, is_back}
 use Rattle.nest_solver.specs.Ways.{IsSwept, IsWay, closes, goes_on, reach}
 use Rattle.nest_solver.specs.Counted.{bit, times}
 use Rattle.nest_solver.specs.Walks.{Follows, IsWalkable, IsWalked}
 use Rattle.nest_solver.proofs.Arcs.{goes_on-out}
 use Rattle.nest_solver.proofs.Solving.{reach-cases, reach-closes}
 use Rattle.nest_solver.proofs.Forward.{HoldsBehind, forward, live-up}
-use Rattle.nest_solver.proofs.Times.{bit_same}
+use Rattle.nest_solver.proofs.Times.{bit_same, bit_other}
+use Rattle.nest_solver.proofs.Puts.{puts-set}
+use Rattle.nest_solver.specs.Nets.{entry}
 
 -- A chosen arc that doesn't end the way goes on to a place with a way.
 pub record GoesBehind (s : Shape) (depth : ℕ) (round weight best choice : ℕ → ℕ) (p : ℕ) : Type 0 where
@@ -20,10 +22,10 @@ pub record GoesBehind (s : Shape) (depth : ℕ) (round weight best choice : ℕ 
 pub goes-behind : (s : Shape) (depth : ℕ) (round weight best choice : ℕ → ℕ) (p : ℕ) →
     IsSwept s depth round weight best choice → 0 < best p → closes s depth (choice p) ≡ false →
     GoesBehind s depth round weight best choice p
-goes-behind s depth round weight best choice p swept some open =
+goes-behind s depth round weight best choice p swept some ongoing =
     elim (reach-cases s depth round best (choice p) (swept.leads p some))
     as (λ _. GoesBehind s depth round weight best choice p) [
-      | inl ends ↦ absurd (true≢false (sym ends ∙ open))
+      | inl ends ↦ absurd (true≢false (sym ends ∙ ongoing))
       | inr g ↦ record {
         on = g.0;
         known = omega (arith, g.1, swept.leads p some);
@@ -39,11 +41,11 @@ follows_at : (s : Shape) (depth : ℕ) (round weight best choice : ℕ → ℕ) 
 follows_at s depth round weight best choice swept p u behind some =
     elim (cases_Bool (closes s depth (choice p))) as (λ _. (way : List ℕ) × Follows s depth choice p way) [
       | inl ends ↦ (choice p ∷ [], (refl, inl (ends, refl)))
-      | inr open ↦
-        let on = goes-behind s depth round weight best choice p swept some open in
+      | inr ongoing ↦
+        let on = goes-behind s depth round weight best choice p swept some ongoing in
         let goes = goes_on-out s depth round (choice p) on.on in
         let rest = behind (choice p) (swept.up p some) (swept.leaves p some) goes.to goes.forward on.known in
-        (choice p ∷ rest.0, (refl, inr (open, rest.1)))
+        (choice p ∷ rest.0, (refl, inr (ongoing, rest.1)))
     ]
 
 pub follows-some : (s : Shape) (depth : ℕ) (round weight best choice : ℕ → ℕ) (p : ℕ) → IsNest s →
@@ -70,8 +72,8 @@ follows-way s depth round weight best choice p (i ∷ more) swept some f =
             weighs = omega (arith, swept.tight p some, ap weight f.0, closed ends.0);
           })
       | inr on ↦
-        let open : closes s depth (choice p) ≡ false = subst (λ (k : ℕ). closes s depth k ≡ false) f.0 on.0 in
-        let behind = goes-behind s depth round weight best choice p swept some open in
+        let ongoing : closes s depth (choice p) ≡ false = subst (λ (k : ℕ). closes s depth k ≡ false) f.0 on.0 in
+        let behind = goes-behind s depth round weight best choice p swept some ongoing in
         let to : s.to i ≡ s.to (choice p) = ap s.to f.0 in
         let rest = follows-way s depth round weight best choice (s.to i) more swept
         (omega (arith, ap best to, behind.known)) on.1 in
@@ -129,12 +131,12 @@ pub walking-more : (s : Shape) (depth : ℕ) (choice : ℕ → ℕ) (from often 
     IsWalking s depth choice from often before after i p → closes s depth i ≡ false → j ≡ choice (s.to i) →
     ((k : ℕ) → IsUpTo s.arcs k → later k ≡ after k + often * bit (j == k)) →
     IsWalking s depth choice from often before later j (s.to i)
-walking-more s depth choice from often before after later i p j walking open chosen counts =
+walking-more s depth choice from often before after later i p j walking ongoing chosen counts =
     record {
       front = walking.front ++ j ∷ [];
       chosen = chosen;
       onward = λ rest behind. subst (Follows s depth choice from) (sym (append_assoc walking.front (j ∷ []) rest))
-          (walking.onward (j ∷ rest) (inr (open, (chosen, behind))));
+          (walking.onward (j ∷ rest) (inr (ongoing, (chosen, behind))));
       counts = λ k u. omega (
         arith,
         counts k u,
@@ -186,8 +188,8 @@ pub walking-room_more : (s : Shape) (depth : ℕ) (choice before after : ℕ →
     (walkable : IsWalkable s depth choice from often before) →
     IsWalking s depth choice from often before after i p → 0 < walkable.best p → closes s depth i ≡ false →
     after (choice (s.to i)) + often < 2 ^ 64
-walking-room_more s depth choice before after from often i p nest walkable walking some open =
-    let shut : closes s depth (choice p) ≡ false = subst (λ (k : ℕ). closes s depth k ≡ false) walking.chosen open in
+walking-room_more s depth choice before after from often i p nest walkable walking some ongoing =
+    let shut : closes s depth (choice p) ≡ false = subst (λ (k : ℕ). closes s depth k ≡ false) walking.chosen ongoing in
     let behind = goes-behind s depth walkable.round walkable.weight walkable.best choice p walkable.swept some shut in
     let known : 0 < walkable.best (s.to i) = omega (arith, behind.known, ap (λ k. walkable.best (s.to k)) walking.chosen) in
     let way = follows-some s depth walkable.round walkable.weight walkable.best choice (s.to i) nest walkable.swept known in
@@ -202,10 +204,55 @@ walking-room_more s depth choice before after from often i p nest walkable walki
           arith,
           walking.counts (choice (s.to i)) up,
           room_of s depth choice from often before (walking.front ++ j ∷ more) (choice (s.to i))
-              (times walking.front (choice (s.to i)) + 1) walkable.room (walking.onward (j ∷ more) (inr (open, f))) up
+              (times walking.front (choice (s.to i)) + 1) walkable.room (walking.onward (j ∷ more) (inr (ongoing, f))) up
               (omega (
                 arith,
                 times-append walking.front (j ∷ more) (choice (s.to i)),
                 bit_same j (choice (s.to i)) f.0,
               )),
         )
+
+-- A table of counts in which one arc came so many times more.
+pub counts-pass : (table : List ℕ) (at arc often : ℕ) → arc ≡ at → at < length table → (k : ℕ) →
+    entry (set table arc (entry table arc + often)) k ≡ entry table k + often * bit (arc == k)
+counts-pass table at arc often e low k =
+    let puts = puts-set table arc (entry table arc + often) (omega (arith, e, low)) in
+    elim (cases_eq k arc)
+    as (λ _. entry (set table arc (entry table arc + often)) k ≡ entry table k + often * bit (arc == k)) [
+      | inl same ↦ omega (
+        arith,
+        ap (entry (set table arc (entry table arc + often))) same,
+        puts.here,
+        ap (entry table) same,
+        ap (λ b. often * b) (bit_same arc k (sym same)),
+      )
+      | inr differ ↦ omega (
+        arith,
+        puts.others k differ,
+        ap (λ b. often * b) (bit_other arc k (λ f. differ (sym f))),
+      )
+    ]
+
+-- Behind an arc that doesn't end the way.
+pub record IsNextArc (s : Shape) (choice best : ℕ → ℕ) (i : ℕ) : Type 0 where
+  pub up : IsUpTo s.arcs (choice (s.to i))
+  pub known : 0 < best (s.to i)
+  pub to : 0 < s.to i
+  pub forward : is_back s i ≡ false
+  pub leaves : s.from (choice (s.to i)) ≡ s.to i
+
+pub next-arc : (s : Shape) (depth : ℕ) (round weight best choice : ℕ → ℕ) (i p : ℕ) →
+    IsSwept s depth round weight best choice → 0 < best p → i ≡ choice p → closes s depth i ≡ false →
+    IsNextArc s choice best i
+next-arc s depth round weight best choice i p swept some chosen ongoing =
+    let behind = goes-behind s depth round weight best choice p swept some
+    (subst (λ (k : ℕ). closes s depth k ≡ false) chosen ongoing) in
+    let goes = goes_on-out s depth round (choice p) behind.on in
+    let known : 0 < best (s.to i) = omega (arith, behind.known, ap (λ k. best (s.to k)) chosen) in
+    record {
+      up = swept.up (s.to i) known;
+      known = known;
+      to = omega (arith, goes.to, ap s.to chosen);
+      forward = subst (λ (k : ℕ). is_back s k ≡ false) (sym chosen) goes.forward;
+      leaves = swept.leaves (s.to i) known;
+    }

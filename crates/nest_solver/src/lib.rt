@@ -15,3 +15,4 @@ mod sweep;
 mod tables;
 mod turns;
 mod up;
+mod walk;
