@@ -43,6 +43,7 @@ pub mod Putting
 pub mod Best
 pub mod Answering
 pub mod Following
+pub mod Turning
 pub mod Latest
 pub mod Raising
 pub mod WorthLevels

@@ -17,4 +17,5 @@ pub mod Sweeps
 pub mod Levels
 pub mod Answers
 pub mod Walks
+pub mod Begun
 pub mod Bases

@@ -7,6 +7,7 @@ mod depths;
 mod groups;
 mod headers;
 mod order;
+mod put_back;
 mod raise;
 mod reads;
 mod scopes;
