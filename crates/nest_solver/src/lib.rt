@@ -4,6 +4,7 @@
 mod arrivals;
 mod base;
 mod depths;
+mod entered;
 mod groups;
 mod headers;
 mod order;
