@@ -223,3 +223,14 @@ levels-roomy_all s price weight turns depth nest levels = record {
       ends = λ i u c. omega (arith, levels.weights i u, room.ends i u c);
       goes = λ i u on. omega (arith, levels.weights i u, room.goes i u on);
     }
+
+-- Once all levels are solved no arc weighs more than the limit.
+pub levels-light : (s : Shape) (price weight turns : ℕ → ℕ) (i : ℕ) → IsNest s → AreLevels s price weight turns 1 →
+    IsUpTo s.arcs i → weight i ≤ crude_limit
+levels-light s price weight turns i nest levels u =
+    omega (
+      arith,
+      levels.weights i u,
+      room-weight s price turns 0 crude_limit i nest levels.crude levels.solved u
+          (λ into. omega (arith, nest.deep (target s i) (entering-of s nest i into).up)),
+    )

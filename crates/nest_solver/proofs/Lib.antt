@@ -45,3 +45,5 @@ pub mod Answering
 pub mod Latest
 pub mod Raising
 pub mod WorthLevels
+pub mod Listing
+pub mod Starting

@@ -17,3 +17,5 @@ pub mod Sweeps
 pub mod Levels
 pub mod Answers
 pub mod Bases
+pub mod Values
+pub mod Shown

@@ -3,9 +3,11 @@
 
 mod arrivals;
 mod base;
+mod bound;
 mod depths;
 mod groups;
 mod headers;
+mod leaf;
 mod order;
 mod raise;
 mod reads;
@@ -15,3 +17,6 @@ mod sweep;
 mod tables;
 mod turns;
 mod up;
+mod values;
+
+pub use bound::nest_bound;
