@@ -42,6 +42,8 @@ pub mod Facing
 pub mod Putting
 pub mod Best
 pub mod Answering
+pub mod Following
+pub mod Turning
 pub mod Latest
 pub mod Raising
 pub mod WorthLevels

@@ -16,6 +16,8 @@ pub mod Plain
 pub mod Sweeps
 pub mod Levels
 pub mod Answers
+pub mod Walks
+pub mod Begun
 pub mod Bases
 pub mod Values
 pub mod Shown

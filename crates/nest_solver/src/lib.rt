@@ -9,6 +9,7 @@ mod groups;
 mod headers;
 mod leaf;
 mod order;
+mod put_back;
 mod raise;
 mod reads;
 mod scopes;
@@ -18,5 +19,6 @@ mod tables;
 mod turns;
 mod up;
 mod values;
+mod walk;
 
 pub use bound::nest_bound;

@@ -30,7 +30,7 @@ pub fn round(net: &Net, up: &[usize], place: usize) -> usize
 }
 
 /// Whether an arc ends a way of a depth.
-fn ends(net: &Net, tables: &Tables, depth: usize, arc: usize) -> bool
+pub fn ends(net: &Net, tables: &Tables, depth: usize, arc: usize) -> bool
     requires nested { IsNested net.now }
     requires tables { AreTables net.now tables.now }
     requires arc { IsUpTo (length net.now.arcs) arc }
