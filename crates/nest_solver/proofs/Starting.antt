@@ -62,10 +62,13 @@ start-worths net tables price weight turns up latest best choice worth total nes
   where
     s : Shape
     s = plain net tables
+
     nest : IsNest (plain net tables)
     nest = tables-nest net tables nested are
+
     weights : ℕ → ℕ
     weights = weight_of (plain net tables) (value_at_end (plain net tables) price) turns
+
     same : base_worth (plain net tables) (2 ^ 63) (rank_by net latest) best ≡ worth
     same = λ i p. sym (bases p) i
 

@@ -52,7 +52,9 @@ fn show(
 {
     let total = solve_all(net, tables, deepest, weights, turns, up, best, choice);
     note_bases(net, latest, best, worths);
-    raise_all(net, tables, deepest, weights, turns, up, best, choice, worths);
+    raise_all(
+        net, tables, deepest, weights, turns, up, best, choice, worths,
+    );
     let leaf = leaf_of(alloc, net.places.as_slice().len(), total, worths, turns)?;
     Ok(leaf)
 }
