@@ -27,9 +27,12 @@ deep_zero loops _ (inner _ depth inst there deep) = absurd (none-some inst there
 deep_next : (loops : List LoopInst) (scope n : ℕ) (inst : LoopInst) → item_at scope loops ≡ Some inst →
     IsDeep loops scope n → (m : ℕ) × (n ≡ suc m) × IsDeep loops inst.outer m
 deep_next loops _ _ inst there run = absurd (none-some inst there)
-deep_next loops _ _ inst there (inner scope depth other also deep) =
-    (depth, refl, subst (λ (i : LoopInst). IsDeep loops i.outer depth)
-    (item_at-same loops scope other inst also there) deep)
+deep_next loops _ _ inst there (inner scope depth other also deep) = (
+  depth,
+  refl,
+  subst (λ (i : LoopInst). IsDeep loops i.outer depth)
+      (item_at-same loops scope other inst also there) deep,
+)
 
 pub deep-same : (loops : List LoopInst) (scope n m : ℕ) → IsDeep loops scope n → IsDeep loops scope m → n ≡ m
 deep-same loops _ _ m run d = sym (deep_zero loops m d)

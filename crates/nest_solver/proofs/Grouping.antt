@@ -18,25 +18,27 @@ pub grouped-more : (key : ℕ → ℕ) (n : ℕ) (first next first2 next2 : ℕ 
     AreGrouped key n first next → Puts first first2 (key n) n → Puts next next2 n (first (key n)) →
     AreGrouped key (n + 1) first2 next2
 grouped-more key n first next first2 next2 up were heads links = record {
-    first_low = first_low;
-    first_key = first_key;
-    first_most = first_most;
-    next_less = next_less;
-    next_key = next_key;
-    next_most = next_most;
-  }
+  first_low = first_low;
+  first_key = first_key;
+  first_most = first_most;
+  next_less = next_less;
+  next_key = next_key;
+  next_most = next_most;
+}
   where
     first_low : (k : ℕ) → 0 < first2 k → first2 k < n + 1
     first_low k some = elim (cases_eq k (key n)) as (λ _. first2 k < n + 1) [
       | inl e ↦ omega (arith, ap first2 e, heads.here)
       | inr differ ↦ omega (arith, heads.others k differ, were.first_low k (omega (arith, heads.others k differ, some)))
     ]
+
     first_key : (k : ℕ) → 0 < first2 k → key (first2 k) ≡ k
     first_key k some = elim (cases_eq k (key n)) as (λ _. key (first2 k) ≡ k) [
       | inl e ↦ ap key (ap first2 e ∙ heads.here) ∙ sym e
       | inr differ ↦ ap key (heads.others k differ)
           ∙ were.first_key k (omega (arith, heads.others k differ, some))
     ]
+
     first_most : (i : ℕ) → 0 < i → i < n + 1 → i ≤ first2 (key i)
     first_most i some low = elim (cases_eq (key i) (key n)) as (λ _. i ≤ first2 (key i)) [
       | inl e ↦ omega (arith, ap first2 e, heads.here, low)
@@ -45,16 +47,19 @@ grouped-more key n first next first2 next2 up were heads links = record {
         | inr other ↦ omega (arith, heads.others (key i) differ, were.first_most i some (omega (arith, low, other)))
       ]
     ]
+
     head_less : first (key n) < n
     head_less = elim (cases_eq (first (key n)) 0) as (λ _. first (key n) < n) [
       | inl none ↦ omega (arith, none, up)
       | inr some ↦ were.first_low (key n) (omega (arith, some))
     ]
+
     next_less : (i : ℕ) → 0 < i → i < n + 1 → next2 i < i
     next_less i some low = elim (cases_eq i n) as (λ _. next2 i < i) [
       | inl e ↦ omega (arith, ap next2 e, links.here, head_less, e)
       | inr differ ↦ omega (arith, links.others i differ, were.next_less i some (omega (arith, low, differ)))
     ]
+
     next_key : (i : ℕ) → 0 < i → i < n + 1 → 0 < next2 i → key (next2 i) ≡ key i
     next_key i some low more = elim (cases_eq i n) as (λ _. key (next2 i) ≡ key i) [
       | inl e ↦ let same = ap next2 e ∙ links.here in
@@ -62,6 +67,7 @@ grouped-more key n first next first2 next2 up were heads links = record {
       | inr differ ↦ ap key (links.others i differ)
           ∙ were.next_key i some (omega (arith, low, differ)) (omega (arith, links.others i differ, more))
     ]
+
     next_most : (i j : ℕ) → 0 < i → i < n + 1 → 0 < j → j < i → key j ≡ key i → j ≤ next2 i
     next_most i j some low more less same = elim (cases_eq i n) as (λ _. j ≤ next2 i) [
       | inl e ↦ omega (

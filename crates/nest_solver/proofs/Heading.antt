@@ -54,18 +54,19 @@ marked-more net nested headed headed2 n up were puts =
               (λ same. differ (nested.distinct scope n inst last e there same))
               ∙ were.own scope inst (omega (arith, low, differ)) e
         ]
+
         only : (place : ℕ) → 0 < headed2 place →
             (inst : LoopInst) × (item_at (headed2 place) net.loops ≡ Some inst) × (inst.header ≡ place)
         only place some = elim (cases_eq place last.header)
             as (λ _. (inst : LoopInst) × (item_at (headed2 place) net.loops ≡ Some inst) × (inst.header ≡ place)) [
-          | inl same ↦ (
-            last,
-            subst (λ (k : ℕ). item_at k net.loops ≡ Some last) (sym (ap headed2 same ∙ puts.here)) there,
-            sym same,
-          )
-          | inr differ ↦ subst (λ (k : ℕ). (inst : LoopInst) × (item_at k net.loops ≡ Some inst) × (inst.header ≡ place))
-              (sym (puts.others place differ)) (were.only place (omega (arith, some, puts.others place differ)))
-        ]
+              | inl same ↦ (
+                last,
+                subst (λ (k : ℕ). item_at k net.loops ≡ Some last) (sym (ap headed2 same ∙ puts.here)) there,
+                sym same,
+              )
+              | inr differ ↦ subst (λ (k : ℕ). (inst : LoopInst) × (item_at k net.loops ≡ Some inst) × (inst.header ≡ place))
+                  (sym (puts.others place differ)) (were.only place (omega (arith, some, puts.others place differ)))
+            ]
 
 pub marked-all : (net : Net) (headed : ℕ → ℕ) (high : ℕ) → length net.loops < high → AreMarked net headed high →
     HasHeaders net headed

@@ -32,6 +32,7 @@ latest-more a position latest latest2 k n up at one were puts = record { most = 
       | inl e ↦ omega (arith, ap latest2 e, puts.here)
       | inr differ ↦ omega (arith, puts.others p differ, were.low p)
     ]
+
     most : (i : ℕ) → IsUpTo a.count i → position i ≤ k + 1 → position i ≤ latest2 (a.from i)
     most i u early = elim (cases_eq (a.from i) (a.from n)) as (λ _. position i ≤ latest2 (a.from i)) [
       | inl e ↦ omega (arith, ap latest2 e, puts.here, early)
@@ -40,13 +41,14 @@ latest-more a position latest latest2 k n up at one were puts = record { most = 
         | inr before ↦ omega (arith, puts.others (a.from i) differ, were.most i u (omega (arith, early, before)))
       ]
     ]
+
     some : (p : ℕ) → 0 < latest2 p → (i : ℕ) × IsUpTo a.count i × (a.from i ≡ p) × (position i ≡ latest2 p)
     some p low = elim (cases_eq p (a.from n))
         as (λ _. (i : ℕ) × IsUpTo a.count i × (a.from i ≡ p) × (position i ≡ latest2 p)) [
-      | inl e ↦ (n, up, sym e, at ∙ sym puts.here ∙ sym (ap latest2 e))
-      | inr differ ↦ let was = were.some p (omega (arith, puts.others p differ, low)) in
-          (was.0, was.1, was.2, was.3 ∙ sym (puts.others p differ))
-    ]
+          | inl e ↦ (n, up, sym e, at ∙ sym puts.here ∙ sym (ap latest2 e))
+          | inr differ ↦ let was = were.some p (omega (arith, puts.others p differ, low)) in
+              (was.0, was.1, was.2, was.3 ∙ sym (puts.others p differ))
+        ]
 
 -- By the last arcs the ranks rise along each arc that isn't a back arc.
 pub latest-rises : (net : Net) (tables : Tables) (latest : ℕ → ℕ) (k : ℕ) → AreTables net tables →
@@ -58,18 +60,19 @@ latest-rises net tables latest k are few all last i u from to forward =
   where
     mine : entry tables.order.positions.items i ≤ latest ((plain net tables).from i)
     mine = last.most i u (all i u)
+
     less : latest ((plain net tables).to i) < latest ((plain net tables).from i)
     less = elim (cases_eq (latest ((plain net tables).to i)) 0)
         as (λ _. latest ((plain net tables).to i) < latest ((plain net tables).from i)) [
-      | inl none ↦ omega (arith, none, mine, (tables-behind net tables are).some i u)
-      | inr some ↦ let arc = last.some ((plain net tables).to i) (omega (arith, some)) in
-          omega (
-            arith,
-            arc.3,
-            mine,
-            (tables-behind net tables are).behind i arc.0 u arc.1 forward to arc.2,
-          )
-    ]
+          | inl none ↦ omega (arith, none, mine, (tables-behind net tables are).some i u)
+          | inr some ↦ let arc = last.some ((plain net tables).to i) (omega (arith, some)) in
+              omega (
+                arith,
+                arc.3,
+                mine,
+                (tables-behind net tables are).behind i arc.0 u arc.1 forward to arc.2,
+              )
+        ]
 
 base_past : (p shift one way dead : ℕ) → 0 < p → way ≡ 0 → dead ≡ 0 →
     cond (p == 0) one (cond (nat_lt 0 way) shift dead) ≡ 0

@@ -77,28 +77,28 @@ weights-more s value before after best depth i nest turns none =
         weight_of s value before i + extra s depth after i ≡ weight_of s value after i
     by into up = elim (cases_eq (s.depth (target s i)) depth)
         as (λ _. weight_of s value before i + extra s depth after i ≡ weight_of s value after i) [
-      | inl same ↦ omega (
-        arith,
-        paid-some s before i into ∙ ap (λ (r : ℕ). (s.bound (target s i) - 1) * r) (none (target s i) up (omega (arith, same))),
-        paid-some s after i into,
-        extra_here s depth after i into same,
-      )
-      | inr differ ↦ omega (
-        arith,
-        paid-some s before i into,
-        paid-some s after i into,
-        ap (λ (r : ℕ). (s.bound (target s i) - 1) * r) (turns (target s i) up
-        ∙ turned_by (s.depth (target s i)) depth (best (s.header (target s i)) - 1) (before (target s i)) differ),
-        extra_other s depth after i differ,
-      )
-    ]
+          | inl same ↦ omega (
+            arith,
+            paid-some s before i into ∙ ap (λ (r : ℕ). (s.bound (target s i) - 1) * r) (none (target s i) up (omega (arith, same))),
+            paid-some s after i into,
+            extra_here s depth after i into same,
+          )
+          | inr differ ↦ omega (
+            arith,
+            paid-some s before i into,
+            paid-some s after i into,
+            ap (λ (r : ℕ). (s.bound (target s i) - 1) * r) (turns (target s i) up
+                ∙ turned_by (s.depth (target s i)) depth (best (s.header (target s i)) - 1) (before (target s i)) differ),
+            extra_other s depth after i differ,
+          )
+        ]
 
 -- The ways of the next depth have room.
 pub levels-roomy : (s : Shape) (price weight turns : ℕ → ℕ) (depth : ℕ) → IsNest s →
     AreLevels s price weight turns (suc depth) → IsRoomy s weight depth
 levels-roomy s price weight turns depth nest levels = record {
-    room = λ round rounds. same round (room-level s price turns round depth crude_limit nest levels.crude levels.solved rounds);
-  }
+  room = λ round rounds. same round (room-level s price turns round depth crude_limit nest levels.crude levels.solved rounds);
+}
   where
     same : (round : ℕ → ℕ) → HasRoom s depth round (weight_of s (value_at_end s price) turns) crude_limit →
         HasRoom s depth round weight crude_limit
@@ -123,18 +123,18 @@ pub price-small : (s : Shape) (price : ℕ → ℕ) (p : ℕ) → IsNest s → I
 price-small s price p nest crude high = elim (cases_eq p 0) as (λ _. price p ≤ crude_limit) [
   | inl e ↦ omega (arith, ap price e, crude.outside)
   | inr some ↦
-    let deepest = sum_to s.loops s.depth in
-    let one : 1 ≤ grown s 0 p = omega (
-      arith,
-      grown-most s deepest p nest,
-      grown-none s deepest p (λ l u. sum-part s.loops l s.depth u),
-    ) in
-    omega (
-      arith,
-      mul-le-mul_left (price p) one,
-      sum-part s.places p (λ q. price q * grown s 0 q) (omega (arith, some, high)),
-      crude.low,
-    )
+      let deepest = sum_to s.loops s.depth in
+      let one : 1 ≤ grown s 0 p = omega (
+        arith,
+        grown-most s deepest p nest,
+        grown-none s deepest p (λ l u. sum-part s.loops l s.depth u),
+      ) in
+      omega (
+        arith,
+        mul-le-mul_left (price p) one,
+        sum-part s.places p (λ q. price q * grown s 0 q) (omega (arith, some, high)),
+        crude.low,
+      )
 ]
 
 -- No weight grows beyond the limit.
@@ -192,11 +192,11 @@ pub levels-none : (s : Shape) (price weight turns : ℕ → ℕ) (depth : ℕ) �
     ((l : ℕ) → turns l ≡ 0) → ((i : ℕ) → IsUpTo s.arcs i → weight i ≡ value_at_end s price i) →
     AreLevels s price weight turns depth
 levels-none s price weight turns depth nest some crude small fresh values = record {
-    crude = crude;
-    solved = solved-none s (value_at_end s price) turns depth nest some small;
-    weights = λ i u. omega (arith, values i u, unpaid i);
-    none = λ l u high. fresh l;
-  }
+  crude = crude;
+  solved = solved-none s (value_at_end s price) turns depth nest some small;
+  weights = λ i u. omega (arith, values i u, unpaid i);
+  none = λ l u high. fresh l;
+}
   where
     unpaid : (i : ℕ) → paid s turns i ≡ 0
     unpaid i = elim (cases_Bool (is_entering s i)) as (λ _. paid s turns i ≡ 0) [
@@ -211,9 +211,9 @@ levels-none s price weight turns depth nest some crude small fresh values = reco
 pub levels-roomy_all : (s : Shape) (price weight turns : ℕ → ℕ) (depth : ℕ) → IsNest s →
     AreLevels s price weight turns 1 → IsRoomy s weight depth
 levels-roomy_all s price weight turns depth nest levels = record {
-    room = λ round rounds. same round (room-level s price turns round depth crude_limit nest levels.crude
-        (λ deep high. levels.solved deep (omega (arith, high))) rounds);
-  }
+  room = λ round rounds. same round (room-level s price turns round depth crude_limit nest levels.crude
+      (λ deep high. levels.solved deep (omega (arith, high))) rounds);
+}
   where
     same : (round : ℕ → ℕ) → HasRoom s depth round (weight_of s (value_at_end s price) turns) crude_limit →
         HasRoom s depth round weight crude_limit
@@ -223,3 +223,14 @@ levels-roomy_all s price weight turns depth nest levels = record {
       ends = λ i u c. omega (arith, levels.weights i u, room.ends i u c);
       goes = λ i u on. omega (arith, levels.weights i u, room.goes i u on);
     }
+
+-- Once all levels are solved no arc weighs more than the limit.
+pub levels-light : (s : Shape) (price weight turns : ℕ → ℕ) (i : ℕ) → IsNest s → AreLevels s price weight turns 1 →
+    IsUpTo s.arcs i → weight i ≤ crude_limit
+levels-light s price weight turns i nest levels u =
+    omega (
+      arith,
+      levels.weights i u,
+      room-weight s price turns 0 crude_limit i nest levels.crude levels.solved u
+          (λ into. omega (arith, nest.deep (target s i) (entering-of s nest i into).up)),
+    )

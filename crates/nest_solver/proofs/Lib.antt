@@ -47,3 +47,5 @@ pub mod Turning
 pub mod Latest
 pub mod Raising
 pub mod WorthLevels
+pub mod Listing
+pub mod Starting

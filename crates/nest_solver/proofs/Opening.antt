@@ -48,9 +48,11 @@ open-put a place place2 left heads next first low q n value chains kept up goes 
   where
     backs : (i : ℕ) → IsUpTo a.count i → a.back i ≡ true → i < first → 0 < place2 i
     backs i u e f = omega (arith, puts.others i (other_kind a i n e forward), kept.backs i u e f)
+
     backs_only : (i : ℕ) → IsUpTo a.count i → a.back i ≡ true → 0 < place2 i → i < first
     backs_only i u e f =
         kept.backs_only i u e (omega (arith, puts.others i (other_kind a i n e forward), f))
+
     others : (i : ℕ) → IsUpTo a.count i → a.back i ≡ false → left (a.to i) ≡ 0 → a.to i < low →
         (a.to i ≡ q → next n < i) → 0 < place2 i
     others i u f e less ahead = elim (cases_eq i n) as (λ _. 0 < place2 i) [
@@ -61,21 +63,21 @@ open-put a place place2 left heads next first low q n value chains kept up goes 
         kept.others i u f e less (λ same. beyond a heads next q n i chains up u goes same differ (ahead same)),
       )
     ]
+
     others_only : (i : ℕ) → IsUpTo a.count i → a.back i ≡ false → 0 < place2 i →
         (left (a.to i) ≡ 0) × (a.to i < low) × (a.to i ≡ q → next n < i)
     others_only i u f more = elim (cases_eq i n)
         as (λ _. (left (a.to i) ≡ 0) × (a.to i < low) × (a.to i ≡ q → next n < i)) [
-      | inl is ↦
-        let at : a.to i ≡ q = ap a.to is ∙ goes in
-        (
-          ap left at ∙ none,
-          omega (arith, at, below),
-          λ same. omega (arith, is, next_less a heads next n chains up),
-        )
-      | inr differ ↦
-        let was = kept.others_only i u f (omega (arith, puts.others i differ, more)) in
-        (was.0, was.1, λ same. omega (arith, was.2 same, next_less a heads next n chains up))
-    ]
+          | inl is ↦
+              let at : a.to i ≡ q = ap a.to is ∙ goes in (
+                ap left at ∙ none,
+                omega (arith, at, below),
+                λ same. omega (arith, is, next_less a heads next n chains up),
+              )
+          | inr differ ↦
+              let was = kept.others_only i u f (omega (arith, puts.others i differ, more)) in
+              (was.0, was.1, λ same. omega (arith, was.2 same, next_less a heads next n chains up))
+        ]
 
 -- A back arc is put into the queue before any place opens.
 pub open-back : (a : Arcs) (place place2 left : ℕ → ℕ) (q n value : ℕ) → AreOpen a place left n 0 q 0 →

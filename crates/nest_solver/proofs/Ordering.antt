@@ -44,12 +44,14 @@ open_step a places order place left first low q acyclic queue kept all wide n p 
         acyclic.rises i u (omega (arith, same, some)) (omega (arith, goes)) forward,
       ))
     ]
+
     in_queue : (i : ℕ) → IsUpTo a.count i → a.from i ≡ p → 0 < place i
     in_queue i u same = elim (cases_Bool (a.back i)) as (λ _. 0 < place i) [
       | inl back ↦ kept.backs i u back (omega (arith, u, all))
       | inr forward ↦ kept.others i u forward (below i u same forward)
           (omega (arith, acyclic.ends i u, wide)) (λ is. omega (arith, u))
     ]
+
     taken : (i : ℕ) → IsUpTo a.count i → a.from i ≡ p → is_pending place (length order) i ≡ false
     taken i u same = not_pending (place i) (length order) (in_queue i u same) (queue.most i u)
 
@@ -68,13 +70,13 @@ pub queue-order : (a : Arcs) (places : ℕ) (order : List ℕ) (place left : ℕ
     AreAcyclic a places → IsQueue a order place left (length order) →
     AreOpen a place left first low q 0 → a.count < first → places < low → IsOrder a order place
 queue-order a places order place left first low q acyclic queue kept enough wide = record {
-    up = queue.up;
-    told = queue.told;
-    short = queue-short a order place left (length order) queue;
-    all = λ i u. (omega (arith, in_queue i u), queue.most i u);
-    there = λ i u. queue.there i u (in_queue i u);
-    behind = λ i j u v forward goes same. (queue.behind i j u v (in_queue i u) forward goes same).1;
-  }
+  up = queue.up;
+  told = queue.told;
+  short = queue-short a order place left (length order) queue;
+  all = λ i u. (omega (arith, in_queue i u), queue.most i u);
+  there = λ i u. queue.there i u (in_queue i u);
+  behind = λ i j u v forward goes same. (queue.behind i j u v (in_queue i u) forward goes same).1;
+}
   where
     in_queue : (i : ℕ) → IsUpTo a.count i → 0 < place i
     in_queue i u = elim (cases_Bool (a.back i)) as (λ _. 0 < place i) [

@@ -36,8 +36,7 @@ pub order-arc : (net : Net) (tables : Tables) (at arc : ℕ) → AreTables net t
     at < length tables.order.arcs.items → arc ≡ get_or tables.order.arcs.items at arc →
     IsUpTo (length net.arcs) arc × (entry tables.order.positions.items arc ≡ at + 1)
 order-arc net tables at arc are low e =
-    let read = entry-read tables.order.arcs.items at arc low e in
-    (
+    let read = entry-read tables.order.arcs.items at arc low e in (
       subst (λ (i : ℕ). IsUpTo (length net.arcs) i) (sym read) (are.order.up at low),
       ap (entry tables.order.positions.items) read ∙ are.order.told at low,
     )

@@ -1,6 +1,8 @@
 -- A table with one entry changed.
 use Rattle.std.proofs.Common.{◌≡◌, ◌∙◌, ℕ, ◌+◌, ◌<◌, ◌≤◌, List, length, get_or, set, get_or-set_other, get_or-set_same, ap, sym, inl, inr, arith}
-use Rattle.std.proofs.lemmas.Bool.{cases_eq}
+use Rattle.std.proofs.lemmas.Bool.{cases_eq, cases_lt}
+use Rattle.std.proofs.Math.ListN.{replicate}
+use Rattle.std.proofs.lemmas.List.{get_or-replicate, get_or_past, length-replicate}
 use Rattle.std.proofs.lemmas.Grind.{get_or_default_zero}
 use Rattle.nest_solver.specs.Nets.{entry}
 
@@ -34,3 +36,10 @@ pub later-more : (table : List ℕ) (before : ℕ → ℕ) (n value : ℕ) → n
     ((k : ℕ) → n ≤ k → entry table k ≡ before k) → (k : ℕ) → n + 1 ≤ k → entry (set table n value) k ≡ before k
 later-more table before n value low later k more =
     (puts-set table n value low).others k (λ same. omega (arith, same, more)) ∙ later k (omega (arith, more))
+
+-- A fresh table has nothing but 0.
+pub zeros : (table : List ℕ) (n : ℕ) → table ≡ replicate n 0 → (i : ℕ) → entry table i ≡ 0
+zeros table n e i = elim (cases_lt i n) as (λ _. entry table i ≡ 0) [
+  | inl low ↦ ap (λ (xs : List ℕ). entry xs i) e ∙ get_or-replicate n i 0 0 low
+  | inr high ↦ get_or_past table i 0 (omega (arith, high, ap length e, length-replicate {A = ℕ} n 0))
+]

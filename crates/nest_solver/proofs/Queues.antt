@@ -86,51 +86,58 @@ pub queue-put : (a : Arcs) (order : List ℕ) (place place2 left : ℕ → ℕ) 
     (a.back n ≡ false → left (a.to n) ≡ 0) → Puts place place2 n (length order + 1) →
     IsQueue a (order ++ n ∷ []) place2 left done
 queue-put a order place place2 left done n queue up fresh ready puts = record {
-    up = up_all;
-    told = told;
-    most = most;
-    there = there;
-    behind = behind;
-    count = omega (
-      arith,
-      long,
-      queue.count,
-      sum-change a.count n (λ i. bit (nat_lt 0 (place i))) (λ i. bit (nat_lt 0 (place2 i))) up
-          (λ i u differ. ap (λ (k : ℕ). bit (nat_lt 0 k)) (puts.others i differ)),
-      bit_zero (place n) fresh,
-      bit_some (place2 n) (omega (arith, puts.here)),
-    );
-    taken = omega (arith, long, queue.taken);
-    waiting = λ p some. queue.waiting p some
-        ∙ sym (waits-put a place place2 done (length order) n p queue.taken fresh puts);
-    zero = queue.zero;
-  }
+  up = up_all;
+  told = told;
+  most = most;
+  there = there;
+  behind = behind;
+  count = omega (
+    arith,
+    long,
+    queue.count,
+    sum-change a.count n (λ i. bit (nat_lt 0 (place i))) (λ i. bit (nat_lt 0 (place2 i))) up
+        (λ i u differ. ap (λ (k : ℕ). bit (nat_lt 0 k)) (puts.others i differ)),
+    bit_zero (place n) fresh,
+    bit_some (place2 n) (omega (arith, puts.here)),
+  );
+  taken = omega (arith, long, queue.taken);
+  waiting = λ p some. queue.waiting p some
+      ∙ sym (waits-put a place place2 done (length order) n p queue.taken fresh puts);
+  zero = queue.zero;
+}
   where
     long : length (order ++ n ∷ []) ≡ length order + 1
     long = length-append order (n ∷ [])
+
     before : (k : ℕ) → k < length order → entry (order ++ n ∷ []) k ≡ entry order k
     before k low = get_or_append_left order (n ∷ []) 0 k low
+
     last : (k : ℕ) → k ≡ length order → entry (order ++ n ∷ []) k ≡ n
     last k e = get_or_push order n 0 k (sym e)
+
     old : (k : ℕ) → k < length order → entry order k ≡ n → ⊥
     old k low e = omega (arith, queue.told k low, ap place e, fresh)
+
     up_all : (k : ℕ) → k < length (order ++ n ∷ []) → IsUpTo a.count (entry (order ++ n ∷ []) k)
     up_all k low = elim (cases_eq k (length order)) as (λ _. IsUpTo a.count (entry (order ++ n ∷ []) k)) [
       | inl e ↦ subst (λ (i : ℕ). IsUpTo a.count i) (sym (last k e)) up
       | inr differ ↦ let less : k < length order = omega (arith, low, long, differ) in
           subst (λ (i : ℕ). IsUpTo a.count i) (sym (before k less)) (queue.up k less)
     ]
+
     told : (k : ℕ) → k < length (order ++ n ∷ []) → place2 (entry (order ++ n ∷ []) k) ≡ k + 1
     told k low = elim (cases_eq k (length order)) as (λ _. place2 (entry (order ++ n ∷ []) k) ≡ k + 1) [
       | inl e ↦ omega (arith, ap place2 (last k e), puts.here, e)
       | inr differ ↦ let less : k < length order = omega (arith, low, long, differ) in
           ap place2 (before k less) ∙ puts.others (entry order k) (old k less) ∙ queue.told k less
     ]
+
     most : (i : ℕ) → IsUpTo a.count i → place2 i ≤ length (order ++ n ∷ [])
     most i u = elim (cases_eq i n) as (λ _. place2 i ≤ length (order ++ n ∷ [])) [
       | inl e ↦ omega (arith, ap place2 e, puts.here, long)
       | inr differ ↦ omega (arith, puts.others i differ, queue.most i u, long)
     ]
+
     there : (i : ℕ) → IsUpTo a.count i → 0 < place2 i → entry (order ++ n ∷ []) (place2 i - 1) ≡ i
     there i u some = elim (cases_eq i n) as (λ _. entry (order ++ n ∷ []) (place2 i - 1) ≡ i) [
       | inl e ↦ last (place2 i - 1) (omega (arith, ap place2 e, puts.here)) ∙ sym e
@@ -138,36 +145,38 @@ queue-put a order place place2 left done n queue up fresh ready puts = record {
           ∙ ap (λ (k : ℕ). entry order (k - 1)) (puts.others i differ)
           ∙ queue.there i u (omega (arith, puts.others i differ, some))
     ]
+
     not_new : (j : ℕ) → 0 < place j → j ≡ n → ⊥
     not_new j some e = omega (arith, some, ap place e, fresh)
+
     behind : (i j : ℕ) → IsUpTo a.count i → IsUpTo a.count j → 0 < place2 i → a.back i ≡ false → 0 < a.to i →
         a.from j ≡ a.to i → (0 < place2 j) × (place2 j < place2 i)
     behind i j u v some forward goes same = elim (cases_eq i n) as (λ _. (0 < place2 j) × (place2 j < place2 i)) [
       | inl e ↦
-        let nothing : left (a.to i) ≡ 0 = ap (λ (k : ℕ). left (a.to k)) e
-            ∙ ready (subst (λ (k : ℕ). a.back k ≡ false) e forward) in
-        let taken = all-taken a place done (a.to i) j (sym (queue.waiting (a.to i) goes) ∙ nothing) v same in
-        let is = puts.others j (not_new j taken.0) in
-        (omega (arith, is, taken), omega (arith, is, taken, ap place2 e, puts.here, queue.taken))
+          let nothing : left (a.to i) ≡ 0 = ap (λ (k : ℕ). left (a.to k)) e
+          ∙ ready (subst (λ (k : ℕ). a.back k ≡ false) e forward) in
+          let taken = all-taken a place done (a.to i) j (sym (queue.waiting (a.to i) goes) ∙ nothing) v same in
+          let is = puts.others j (not_new j taken.0) in
+          (omega (arith, is, taken), omega (arith, is, taken, ap place2 e, puts.here, queue.taken))
       | inr differ ↦
-        let old_place = puts.others i differ in
-        let was = queue.behind i j u v (omega (arith, old_place, some)) forward goes same in
-        let is = puts.others j (not_new j was.0) in
-        (omega (arith, is, was), omega (arith, is, was, old_place))
+          let old_place = puts.others i differ in
+          let was = queue.behind i j u v (omega (arith, old_place, some)) forward goes same in
+          let is = puts.others j (not_new j was.0) in
+          (omega (arith, is, was), omega (arith, is, was, old_place))
     ]
 
 pending_same : (place done : ℕ) → (place ≡ done + 1 → ⊥) →
     ((place == 0) || nat_lt (done + 1) place) ≡ ((place == 0) || nat_lt done place)
 pending_same place done differ = elim (cases_lt (done + 1) place)
     as (λ _. ((place == 0) || nat_lt (done + 1) place) ≡ ((place == 0) || nat_lt done place)) [
-  | inl more ↦ pending_new place (done + 1) more ∙ sym (pending_new place done (omega (arith, more)))
-  | inr less ↦ elim (cases_eq place 0)
-      as (λ _. ((place == 0) || nat_lt (done + 1) place) ≡ ((place == 0) || nat_lt done place)) [
-    | inl none ↦ pending_free place (done + 1) none ∙ sym (pending_free place done none)
-    | inr some ↦ pending_old place (done + 1) (omega (arith, some)) less
-        ∙ sym (pending_old place done (omega (arith, some)) (omega (arith, less, differ)))
-  ]
-]
+      | inl more ↦ pending_new place (done + 1) more ∙ sym (pending_new place done (omega (arith, more)))
+      | inr less ↦ elim (cases_eq place 0)
+          as (λ _. ((place == 0) || nat_lt (done + 1) place) ≡ ((place == 0) || nat_lt done place)) [
+            | inl none ↦ pending_free place (done + 1) none ∙ sym (pending_free place done none)
+            | inr some ↦ pending_old place (done + 1) (omega (arith, some)) less
+                ∙ sym (pending_old place done (omega (arith, some)) (omega (arith, less, differ)))
+          ]
+    ]
 
 -- The arc that is taken next is the only one that isn't pending any more.
 still_pending : (a : Arcs) (order : List ℕ) (place left : ℕ → ℕ) (done n : ℕ) → IsQueue a order place left done →
@@ -187,12 +196,12 @@ waits-other a order place left done n p queue e other =
         ≡ bit ((a.from i == p) && is_pending place done i)
     same i u = elim (cases_eq i n) as (λ _. bit ((a.from i == p) && is_pending place (done + 1) i)
         ≡ bit ((a.from i == p) && is_pending place done i)) [
-      | inl is ↦ let differ : a.from i ≡ p → ⊥ = λ q. other (sym (ap a.from is) ∙ q) in
-          bit_none (a.from i) p (is_pending place (done + 1) i) differ
-          ∙ sym (bit_none (a.from i) p (is_pending place done i) differ)
-      | inr differ ↦ ap (λ (b : Bool). bit ((a.from i == p) && b))
-          (still_pending a order place left done n queue e i u differ)
-    ]
+          | inl is ↦ let differ : a.from i ≡ p → ⊥ = λ q. other (sym (ap a.from is) ∙ q) in
+              bit_none (a.from i) p (is_pending place (done + 1) i) differ
+              ∙ sym (bit_none (a.from i) p (is_pending place done i) differ)
+          | inr differ ↦ ap (λ (b : Bool). bit ((a.from i == p) && b))
+              (still_pending a order place left done n queue e i u differ)
+        ]
 
 bit_true : (b : Bool) → b ≡ true → bit b ≡ 1
 bit_true true e = refl
@@ -266,6 +275,7 @@ queue-take a order place left left2 done n queue more e some puts =
   where
     up : IsUpTo a.count n
     up = subst (λ (k : ℕ). IsUpTo a.count k) e (queue.up done more)
+
     at : place n ≡ done + 1
     at = sym (ap place e) ∙ queue.told done more
 
@@ -302,9 +312,11 @@ queue-none a place left fresh counts outside = record {
     none : (n : ℕ) → sum_to n (λ i. bit (nat_lt 0 (place i))) ≡ 0
     none zero = refl
     none (suc n) = omega (arith, none n, bit_zero (place (suc n)) (fresh (suc n)))
+
     and_true : (b c : Bool) → c ≡ true → bit b ≡ bit (b && c)
     and_true true true e = refl
     and_true true false e = absurd (true≢false (sym e))
     and_true false c e = refl
+
     all : (i p : ℕ) → bit (a.from i == p) ≡ bit ((a.from i == p) && is_pending place 0 i)
     all i p = and_true (a.from i == p) (is_pending place 0 i) (pending_free (place i) 0 (fresh i))

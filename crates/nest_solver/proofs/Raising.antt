@@ -27,13 +27,14 @@ lifted_same : (r b t w v x y : ℕ) → w ≡ v → (0 < r → x ≡ y) →
     ≡ cond (nat_lt 0 r && nat_lt 0 b) (max v ((b + y) - (t + 1))) v
 lifted_same r b t w v x y e h = elim (cases_lt 0 r)
     as (λ _. cond (nat_lt 0 r && nat_lt 0 b) (max w ((b + x) - (t + 1))) w
-        ≡ cond (nat_lt 0 r && nat_lt 0 b) (max v ((b + y) - (t + 1))) v) [
-  | inl some ↦ ap₂ (λ (m k : ℕ). cond (nat_lt 0 r && nat_lt 0 b) (max m ((b + k) - (t + 1))) m) e (h some)
-  | inr none ↦ by none
-]
+    ≡ cond (nat_lt 0 r && nat_lt 0 b) (max v ((b + y) - (t + 1))) v) [
+      | inl some ↦ ap₂ (λ (m k : ℕ). cond (nat_lt 0 r && nat_lt 0 b) (max m ((b + k) - (t + 1))) m) e (h some)
+      | inr none ↦ by none
+    ]
   where
     out : (m n : ℕ) → r ≤ 0 → cond (nat_lt 0 r && nat_lt 0 b) n m ≡ m
     out m n none = grind (arith, nat_tests)
+
     by : r ≤ 0 → cond (nat_lt 0 r && nat_lt 0 b) (max w ((b + x) - (t + 1))) w
         ≡ cond (nat_lt 0 r && nat_lt 0 b) (max v ((b + y) - (t + 1))) v
     by none = out w (max w ((b + x) - (t + 1))) none ∙ e ∙ sym (out v (max v ((b + y) - (t + 1))) none)

@@ -74,14 +74,14 @@ left_more net left left2 n was some puts =
     record {
       counts = λ p low. elim (cases_eq from p)
           as (λ _. left2 p ≡ sum_to (suc n) (λ i. bit (source_of (item_at i net.arcs) == p))) [
-        | inl e ↦ omega (arith, ap left2 e, ap left e, puts.here, was.counts p low, bit_one from p e)
-        | inr differ ↦ omega (
-          arith,
-          puts.others p (λ is. differ (sym is)),
-          was.counts p low,
-          bit_zero from p differ,
-        )
-      ];
+            | inl e ↦ omega (arith, ap left2 e, ap left e, puts.here, was.counts p low, bit_one from p e)
+            | inr differ ↦ omega (
+              arith,
+              puts.others p (λ is. differ (sym is)),
+              was.counts p low,
+              bit_zero from p differ,
+            )
+          ];
       zero = puts.others 0 (λ is. omega (arith, is, some)) ∙ was.zero;
     }
 
@@ -105,6 +105,7 @@ left-more net left left2 i from up was e some puts =
   where
     back : suc (i - 1) ≡ i
     back = omega (arith, up)
+
     same : source_of (item_at (suc (i - 1)) net.arcs) ≡ from
     same = ap (λ (k : ℕ). source_of (item_at k net.arcs)) back ∙ sym e
 
@@ -121,14 +122,14 @@ left-pass net left i from up was e none =
 pub grouped-same : (key other : ℕ → ℕ) (high : ℕ) (first next : ℕ → ℕ) → AreGrouped key high first next →
     ((i : ℕ) → 0 < i → i < high → key i ≡ other i) → AreGrouped other high first next
 grouped-same key other high first next were same = record {
-    first_low = were.first_low;
-    first_key = λ k some. sym (same (first k) some (were.first_low k some)) ∙ were.first_key k some;
-    first_most = λ i some low. omega (arith, were.first_most i some low, ap first (same i some low));
-    next_less = were.next_less;
-    next_key = λ i some low more.
-        let less = were.next_less i some low in
-        sym (same (next i) more (omega (arith, less, low))) ∙ were.next_key i some low more ∙ same i some low;
-    next_most = λ i j some low more less is.
-        were.next_most i j some low more less
-        (same j more (omega (arith, less, low)) ∙ is ∙ sym (same i some low));
-  }
+  first_low = were.first_low;
+  first_key = λ k some. sym (same (first k) some (were.first_low k some)) ∙ were.first_key k some;
+  first_most = λ i some low. omega (arith, were.first_most i some low, ap first (same i some low));
+  next_less = were.next_less;
+  next_key = λ i some low more.
+      let less = were.next_less i some low in
+      sym (same (next i) more (omega (arith, less, low))) ∙ were.next_key i some low more ∙ same i some low;
+  next_most = λ i j some low more less is.
+      were.next_most i j some low more less
+      (same j more (omega (arith, less, low)) ∙ is ∙ sym (same i some low));
+}

@@ -65,10 +65,10 @@ so_far-pass s depth round weight best choice position limit k n order up at less
   low = far.low;
   closed = λ i u early some. elim (cases_eq (position i) (k + 1))
       as (λ _. weight i + reach s depth round best i ≤ best (s.from i)) [
-    | inl e ↦ subst (λ (j : ℕ). 0 < reach s depth round best j → weight j + reach s depth round best j ≤ best (s.from j))
-        (order.one n i up u (at ∙ sym e)) less some
-    | inr differ ↦ far.closed i u (omega (arith, early, differ)) some
-  ];
+        | inl e ↦ subst (λ (j : ℕ). 0 < reach s depth round best j → weight j + reach s depth round best j ≤ best (s.from j))
+            (order.one n i up u (at ∙ sym e)) less some
+        | inr differ ↦ far.closed i u (omega (arith, early, differ)) some
+      ];
   up = far.up;
   known = λ p some. omega (arith, far.known p some);
   leaves = far.leaves;
@@ -133,13 +133,16 @@ so_far-better s depth round weight best best2 choice choice2 position limit k n 
         reach s depth round best2 i ≡ reach s depth round best i
     same i u early = reach_same s depth round best best2 position n (weight n + reach s depth round best n) i order up u
         early bests
+
     was : (q : ℕ) → (q ≡ s.from n → ⊥) → 0 < best2 q → 0 < best q
     was q differ h = omega (arith, h, bests.others q differ)
+
     at_each : (P : ℕ → Type 0) → P (s.from n) → ((q : ℕ) → (q ≡ s.from n → ⊥) → P q) → (p : ℕ) → P p
     at_each P here others p = elim (cases_eq p (s.from n)) as (λ _. P p) [
       | inl e ↦ subst P (sym e) here
       | inr differ ↦ others p differ
     ]
+
     low : (p : ℕ) → best2 p ≤ far.room.most p + 1
     low p = at_each (λ (q : ℕ). best2 q ≤ far.room.most q + 1)
         (omega (
@@ -148,14 +151,15 @@ so_far-better s depth round weight best best2 choice choice2 position limit k n 
           room-behind s depth round weight best choice position limit k n far up leads,
         ))
         (λ q differ. omega (arith, bests.others q differ, far.low q)) p
+
     closed : (i : ℕ) → IsUpTo s.arcs i → position i ≤ k + 1 → 0 < reach s depth round best2 i →
         weight i + reach s depth round best2 i ≤ best2 (s.from i)
     closed i u early some = elim (cases_eq (position i) (k + 1))
         as (λ _. weight i + reach s depth round best2 i ≤ best2 (s.from i)) [
-      | inl e ↦ subst (λ (j : ℕ). weight j + reach s depth round best2 j ≤ best2 (s.from j))
-          (order.one n i up u (at ∙ sym e)) (omega (arith, bests.here, same n up (omega arith)))
-      | inr differ ↦ grown i u (omega (arith, early, differ)) some
-    ]
+          | inl e ↦ subst (λ (j : ℕ). weight j + reach s depth round best2 j ≤ best2 (s.from j))
+              (order.one n i up u (at ∙ sym e)) (omega (arith, bests.here, same n up (omega arith)))
+          | inr differ ↦ grown i u (omega (arith, early, differ)) some
+        ]
       where
         grown : (i : ℕ) → IsUpTo s.arcs i → position i ≤ k → 0 < reach s depth round best2 i →
             weight i + reach s depth round best2 i ≤ best2 (s.from i)

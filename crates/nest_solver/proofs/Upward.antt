@@ -36,16 +36,19 @@ right-more net depths heads next up up2 depth level n has chains number deep wer
             up2 inst.outer ≡ up inst.outer
         same_outer scope inst e less =
             puts.others inst.outer (outer_other net depths has scope n level inst e deep less)
+
         at_last : (inst : LoopInst) → item_at n net.loops ≡ Some inst →
             up2 n ≡ up_step (depths n) depth n (up2 inst.outer)
         at_last inst e = puts.here
             ∙ ap (λ (i : LoopInst). up_step (depths n) depth n (up i.outer)) (item_at-same net.loops n last inst there e)
             ∙ ap (λ (k : ℕ). up_step (depths n) depth n k) (sym (same_outer n inst e (omega (arith, deep))))
+
         other : (scope : ℕ) (inst : LoopInst) → item_at scope net.loops ≡ Some inst → (scope ≡ n → ⊥) →
             depths scope ≤ level → ((depths scope < level) ⊎ ((depths scope ≡ level) × (n < scope))) →
             up2 scope ≡ up_step (depths scope) depth scope (up2 inst.outer)
         other scope inst e differ less done = puts.others scope differ ∙ were.found scope inst e done
             ∙ ap (λ (k : ℕ). up_step (depths scope) depth scope k) (sym (same_outer scope inst e less))
+
         above : (scope : ℕ) (inst : LoopInst) → item_at scope net.loops ≡ Some inst →
             ((depths scope ≡ level) × (next n < scope)) → (scope ≡ n → ⊥) → n < scope
         above scope inst e more differ = elim (cases_lt n scope) as (λ _. n < scope) [
@@ -57,6 +60,7 @@ right-more net depths heads next up up2 depth level n has chains number deep wer
                 (item_at-within net.loops scope inst e).from_one (omega (arith, low, differ)) (more.0 ∙ sym deep),
           ))
         ]
+
         found : (scope : ℕ) (inst : LoopInst) → item_at scope net.loops ≡ Some inst →
             ((depths scope < level) ⊎ ((depths scope ≡ level) × (next n < scope))) →
             up2 scope ≡ up_step (depths scope) depth scope (up2 inst.outer)
@@ -64,10 +68,10 @@ right-more net depths heads next up up2 depth level n has chains number deep wer
             other scope inst e (λ same. omega (arith, ap depths same, deep, less)) (omega (arith, less)) (inl less)
         found scope inst e (inr more) = elim (cases_eq scope n)
             as (λ _. up2 scope ≡ up_step (depths scope) depth scope (up2 inst.outer)) [
-          | inl same ↦ subst (λ (k : ℕ). up2 k ≡ up_step (depths k) depth k (up2 inst.outer)) (sym same)
-              (at_last inst (subst (λ (k : ℕ). item_at k net.loops ≡ Some inst) same e))
-          | inr differ ↦ other scope inst e differ (omega (arith, more)) (inr (more.0, above scope inst e more differ))
-        ]
+              | inl same ↦ subst (λ (k : ℕ). up2 k ≡ up_step (depths k) depth k (up2 inst.outer)) (sym same)
+                  (at_last inst (subst (λ (k : ℕ). item_at k net.loops ≡ Some inst) same e))
+              | inr differ ↦ other scope inst e differ (omega (arith, more)) (inr (more.0, above scope inst e more differ))
+            ]
 
 -- The head of a level's chain is next; behind the chain all of the level are found.
 pub right-first : (net : Net) (depths heads next up : ℕ → ℕ) (depth level : ℕ) →
@@ -76,16 +80,16 @@ pub right-first : (net : Net) (depths heads next up : ℕ → ℕ) (depth level 
 right-first net depths heads next up depth level chains were = record {
   found = λ scope inst e done. elim done
       as (λ _. up scope ≡ up_step (depths scope) depth scope (up inst.outer)) [
-    | inl less ↦ were.found scope inst e (inl less)
-    | inr more ↦
-      let number = item_at-within net.loops scope inst e in
-      absurd (omega (
-        arith,
-        more,
-        chains.first_most scope number.from_one (omega (arith, number.within)),
-        ap heads more.0,
-      ))
-  ];
+        | inl less ↦ were.found scope inst e (inl less)
+        | inr more ↦
+            let number = item_at-within net.loops scope inst e in
+            absurd (omega (
+              arith,
+              more,
+              chains.first_most scope number.from_one (omega (arith, number.within)),
+              ap heads more.0,
+            ))
+      ];
 }
 
 pub right-next : (net : Net) (depths up : ℕ → ℕ) (depth level : ℕ) → AreRight net depths depth up level 0 →
@@ -94,13 +98,13 @@ right-next net depths up depth level were = record {
   found = λ scope inst e done.
       let number = item_at-within net.loops scope inst e in
       elim done as (λ _. up scope ≡ up_step (depths scope) depth scope (up inst.outer)) [
-    | inl less ↦ elim (cases_eq (depths scope) level)
-        as (λ _. up scope ≡ up_step (depths scope) depth scope (up inst.outer)) [
-      | inl same ↦ were.found scope inst e (inr (same, number.from_one))
-      | inr differ ↦ were.found scope inst e (inl (omega (arith, less, differ)))
-    ]
-    | inr more ↦ absurd (omega (arith, more, number.within))
-  ];
+        | inl less ↦ elim (cases_eq (depths scope) level)
+            as (λ _. up scope ≡ up_step (depths scope) depth scope (up inst.outer)) [
+              | inl same ↦ were.found scope inst e (inr (same, number.from_one))
+              | inr differ ↦ were.found scope inst e (inl (omega (arith, less, differ)))
+            ]
+        | inr more ↦ absurd (omega (arith, more, number.within))
+      ];
 }
 
 -- The run has depth 0, so no loop instance is found before level 1.
@@ -110,9 +114,9 @@ right-none net depths up depth has = record {
   found = λ scope inst e done.
       let number = item_at-within net.loops scope inst e in
       elim done as (λ _. up scope ≡ up_step (depths scope) depth scope (up inst.outer)) [
-    | inl less ↦ absurd (omega (arith, less, has.outward scope inst e))
-    | inr more ↦ absurd (omega (arith, more, number.within))
-  ];
+        | inl less ↦ absurd (omega (arith, less, has.outward scope inst e))
+        | inr more ↦ absurd (omega (arith, more, number.within))
+      ];
 }
 
 pub right-all : (net : Net) (depths up : ℕ → ℕ) (depth level : ℕ) → ((scope : ℕ) → depths scope < level) →
@@ -127,9 +131,9 @@ pub chain-first : (n k : ℕ) (key heads next : ℕ → ℕ) → AreGrouped key 
     (heads k ≤ n) × (0 < heads k → key (heads k) ≡ k)
 chain-first n k key heads next chains = elim (cases_eq (heads k) 0)
     as (λ _. (heads k ≤ n) × (0 < heads k → key (heads k) ≡ k)) [
-  | inl none ↦ (omega (arith, none), λ some. absurd (omega (arith, none, some)))
-  | inr some ↦ (omega (arith, chains.first_low k (omega (arith, some))), chains.first_key k)
-]
+      | inl none ↦ (omega (arith, none), λ some. absurd (omega (arith, none, some)))
+      | inr some ↦ (omega (arith, chains.first_low k (omega (arith, some))), chains.first_key k)
+    ]
 
 pub chain-next : (n i : ℕ) (key heads next : ℕ → ℕ) → IsUpTo n i → AreGrouped key (n + 1) heads next →
     (next i ≤ n) × (0 < next i → key (next i) ≡ key i)

@@ -37,7 +37,9 @@ worths-next s price weight turns round best choice before after depth total nest
   where
     weights : ℕ → ℕ
     weights = weight_of s (value_at_end s price) turns
+
     back : suc (depth - 1) ≡ depth
     back = omega (arith, some)
+
     same : lifted s round best turns before ≡ after
     same = λ i p. sym (raised p) i

@@ -19,3 +19,5 @@ pub mod Answers
 pub mod Walks
 pub mod Begun
 pub mod Bases
+pub mod Values
+pub mod Shown

@@ -3,10 +3,12 @@
 
 mod arrivals;
 mod base;
+mod bound;
 mod depths;
 mod entered;
 mod groups;
 mod headers;
+mod leaf;
 mod order;
 mod put_back;
 mod raise;
@@ -17,4 +19,7 @@ mod sweep;
 mod tables;
 mod turns;
 mod up;
+mod values;
 mod walk;
+
+pub use bound::nest_bound;

@@ -55,14 +55,7 @@ fn raised(
 }
 
 /// Raises the worths by the loops of a depth, whose turns are the longest ways from their headers.
-fn raise(
-    net: &Net,
-    tables: &Tables,
-    up: &[usize],
-    best: &[u64],
-    turns: &[u64],
-    worths: &mut [u128],
-)
+fn raise(net: &Net, tables: &Tables, up: &[usize], best: &[u64], turns: &[u64], worths: &mut [u128])
     requires nested { IsNested net.now }
     requires few { IsFew net.now }
     requires tables { AreTables net.now tables.now }
@@ -109,9 +102,9 @@ fn raise_level(
     ensures small { (p : ℕ) → entry worths.new p ≤ 2 ^ 63 * (length net.now.arcs + 2 + depth) }
     ensures worths { (price : ℕ → ℕ) (total : ℕ) → AreLevels (plain net.now tables.now) price (entry weights.now) (entry turns.now) 1
         → AreWorths (plain net.now tables.now) (weight_of (plain net.now tables.now) (value_at_end (plain net.now tables.now) price) (entry turns.now))
-            (entry turns.now) (depth - 1) total (entry worths.old)
+        (entry turns.now) (depth - 1) total (entry worths.old)
         → AreWorths (plain net.now tables.now) (weight_of (plain net.now tables.now) (value_at_end (plain net.now tables.now) price) (entry turns.now))
-            (entry turns.now) depth total (entry worths.new) }
+        (entry turns.now) depth total (entry worths.new) }
 {
     level(net, tables, depth, weights, up, best, choice);
     raise(net, tables, up, best, turns, worths);
@@ -144,9 +137,9 @@ pub fn raise_all(
     ensures small { (p : ℕ) → entry worths.new p ≤ 2 ^ 63 * (length net.now.arcs + 2 + deepest) }
     ensures worths { (price : ℕ → ℕ) (total : ℕ) → AreLevels (plain net.now tables.now) price (entry weights.now) (entry turns.now) 1
         → AreWorths (plain net.now tables.now) (weight_of (plain net.now tables.now) (value_at_end (plain net.now tables.now) price) (entry turns.now))
-            (entry turns.now) 0 total (entry worths.old)
+        (entry turns.now) 0 total (entry worths.old)
         → AreWorths (plain net.now tables.now) (weight_of (plain net.now tables.now) (value_at_end (plain net.now tables.now) price) (entry turns.now))
-            (entry turns.now) deepest total (entry worths.new) }
+        (entry turns.now) deepest total (entry worths.new) }
 {
     for depth in 1..deepest + 1 {
         raise_level(net, tables, depth, weights, turns, up, best, choice, worths);

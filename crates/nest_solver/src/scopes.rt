@@ -32,5 +32,9 @@ pub fn scopes_of(alloc: Global, net: &Net) -> Result<Scopes, AllocError>
     let mut heads = vec![in alloc; 0; count + 2]?;
     let mut next = vec![in alloc; 0; count + 1]?;
     group(&depths, &mut heads, &mut next);
-    Ok(Scopes { depths, heads, next })
+    Ok(Scopes {
+        depths,
+        heads,
+        next,
+    })
 }

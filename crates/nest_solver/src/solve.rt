@@ -1,6 +1,6 @@
 //! Levels solved one after the other, the deepest first.
 
-ghost use Rattle.std.specs.Prelude.{◌≡◌, ℕ, ◌+◌, ◌<◌, ◌≤◌, length};
+ghost use Rattle.std.specs.Prelude.{◌≡◌, ℕ, ◌+◌, ◌-◌, ◌<◌, ◌≤◌, length};
 ghost use Rattle.flow_net.specs.Nested.{IsNested};
 ghost use Rattle.ipet_program.specs.Programs.{crude_limit};
 ghost use Rattle.nest_solver.specs.Levels.{AreLevels, IsRoomy, SomeLevels};
@@ -9,6 +9,7 @@ ghost use Rattle.nest_solver.specs.Plain.{AreTables, plain};
 ghost use Rattle.nest_solver.specs.Tables.{IsFew};
 ghost use Rattle.nest_solver.specs.Ways.{IsSwept};
 
+use crate::reads::target;
 use crate::sweep::sweep;
 use crate::tables::Tables;
 use crate::turns::{add_turns, note_turns};
@@ -99,4 +100,38 @@ pub fn solve(
         solve_level(net, tables, depth, weights, turns, up, best, choice);
         depth -= 1;
     }
+}
+
+/// Solves the loops of all depths, then finds the longest ways out: the greatest value of a run.
+pub fn solve_all(
+    net: &Net,
+    tables: &Tables,
+    deepest: usize,
+    weights: &mut [u64],
+    turns: &mut [u64],
+    up: &mut [usize],
+    best: &mut [u64],
+    choice: &mut [usize],
+) -> u64
+    requires nested { IsNested net.now }
+    requires few { IsFew net.now }
+    requires tables { AreTables net.now tables.now }
+    requires deep { deepest ≤ length net.now.loops + 1 }
+    requires up { length up.old ≡ length net.now.loops + 1 }
+    requires weights { length weights.old ≡ length net.now.arcs + 1 }
+    requires turns { length turns.old ≡ length net.now.loops + 1 }
+    requires best { length best.old ≡ length net.now.places + 1 }
+    requires choice { length choice.old ≡ length net.now.places + 1 }
+    requires levels { SomeLevels (plain net.now tables.now) (entry weights.old) (entry turns.old) (deepest + 1) }
+    ensures levels { (price : ℕ → ℕ) → AreLevels (plain net.now tables.now) price (entry weights.old) (entry turns.old) (deepest + 1)
+        → AreLevels (plain net.now tables.now) price (entry weights.new) (entry turns.new) 1 }
+    ensures up { AreUp net.now (entry tables.now.scopes.depths.items) 0 (entry up.new) }
+    ensures swept { IsSwept (plain net.now tables.now) 0 (round_by net.now (entry up.new)) (entry weights.new)
+        (entry best.new) (entry choice.new) }
+    ensures small { (p : ℕ) → entry best.new p ≤ crude_limit + 1 }
+    ensures total { result ≡ entry weights.new 1 + entry best.new ((plain net.now tables.now).to 1) - 1 }
+{
+    solve(net, tables, deepest, weights, turns, up, best, choice);
+    level(net, tables, 0, weights, up, best, choice);
+    weights[1] + best[target(net, 1)] - 1
 }

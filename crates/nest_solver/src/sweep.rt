@@ -79,14 +79,7 @@ fn goes(net: &Net, tables: &Tables, depth: usize, up: &[usize], arc: usize) -> b
 
 /// What is known behind an arc: 1 where it ends a way, else what is known of the place that it goes to; 0 where no way
 /// takes it.
-fn behind(
-    net: &Net,
-    tables: &Tables,
-    depth: usize,
-    up: &[usize],
-    best: &[u64],
-    arc: usize,
-) -> u64
+fn behind(net: &Net, tables: &Tables, depth: usize, up: &[usize], best: &[u64], arc: usize) -> u64
     requires nested { IsNested net.now }
     requires tables { AreTables net.now tables.now }
     requires arc { IsUpTo (length net.now.arcs) arc }

@@ -5,7 +5,6 @@ use Rattle.nest_solver.proofs.Opens.{opening-order}
 use Rattle.nest_solver.proofs.Queues.{queue-short}
 use Rattle.nest_solver.proofs.order.take_all.Goals as goal
 
-
 pub loop-at-smaller : goal.loop-at-smaller
 loop-at-smaller c =
     let short = queue-short (arcs_of c.args.net.now c.args.backs.now) c.loop-at.order.items (entry c.loop-at.place)

@@ -26,10 +26,10 @@ loop-place-preserved c =
     c.loop-place.invariant
     (c.raised.ensures.raised
     ∙ raised-next s c.requires.level.depth round best turns (entry c.args.worths.now) (entry c.loop-place.worths) place
-        (tables-nest net tables c.requires.nested c.requires.tables)
-        (round-up net (entry tables.scopes.depths.items) (entry tables.headed.items) c.requires.level.depth
-        (entry c.args.up.now) c.requires.nested c.requires.tables.scopes.depths c.requires.level.are)
-        c.requires.level.turned c.loop-place.invariant)
+    (tables-nest net tables c.requires.nested c.requires.tables)
+    (round-up net (entry tables.scopes.depths.items) (entry tables.headed.items) c.requires.level.depth
+    (entry c.args.up.now) c.requires.nested c.requires.tables.scopes.depths c.requires.level.are)
+    c.requires.level.turned c.loop-place.invariant)
     (puts-set c.loop-place.worths place c.raised.result
     (omega (
       arith,

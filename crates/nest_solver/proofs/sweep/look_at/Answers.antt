@@ -187,4 +187,3 @@ returns c =
           (puts-set c.args.choice.now from arc (omega (arith, within, c.requires.choice))))
           c.requires.far;
     }
-

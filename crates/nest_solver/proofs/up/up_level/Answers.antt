@@ -38,8 +38,12 @@ loop-scope-smaller c =
     let scopes = c.args.scopes.now in
     let read = entry-read scopes.next.items c.loop-scope.scope c.index-scope-in-loop-scope.result.now
     (omega (arith, c.requires.scopes.next, c.loop-scope.invariant.within)) c.index-scope-in-loop-scope.ensures in
-    omega (arith, read, c.requires.scopes.chains.next_less c.loop-scope.scope (omega (arith, c.loop-scope-test.true))
-    (omega (arith, c.loop-scope.invariant.within)))
+    omega (
+      arith,
+      read,
+      c.requires.scopes.chains.next_less c.loop-scope.scope (omega (arith, c.loop-scope-test.true))
+          (omega (arith, c.loop-scope.invariant.within)),
+    )
 
 pub loop-scope-preserved : goal.loop-scope-preserved
 loop-scope-preserved c =
