@@ -1,6 +1,6 @@
 -- The turn of one loop is put back by a walk from its header.
 use Rattle.std.proofs.lemmas.Bool.Decides.{nat_tests}
-use Rattle.nest_solver.specs.Nets.{entry}
+use Rattle.nest_solver.specs.Nets.{entry, value_at_end}
 use Rattle.std.proofs.Common.{◌≡◌, ◌⊎◌, ℕ, zero, suc, ◌+◌, ◌-◌, ◌*◌, ◌^◌, ◌<◌, ◌≤◌, ◌==◌, ◌&&◌, not, Bool, true, false, length, set, mul_comm, List, [], ◌∷◌, sum_by, refl, sym, ap, ◌∙◌, subst, inl, inr, arith, mul-le-mul_left}
 use Rattle.ipet_program.specs.Programs.{crude_limit}
 use Rattle.ipet_program.specs.Sums.{sum_to}
@@ -10,11 +10,12 @@ use Rattle.nest_solver.specs.Solved.{IsSolved, weight_of}
 use Rattle.nest_solver.specs.Counted.{IsTurn, bit, entered, enters, times}
 use Rattle.nest_solver.specs.Putting.{IsCountedTo, IsPutting, HasRoomFor}
 use Rattle.nest_solver.specs.Walks.{Follows, IsWalkable, IsWalked}
-use Rattle.nest_solver.specs.Begun.{IsAtTurn, IsBegun, IsSettled}
+use Rattle.nest_solver.specs.Begun.{IsAtTurn, IsBegun, IsReady, IsSettled}
 use Rattle.nest_solver.proofs.Facing.{turned-again}
 use Rattle.nest_solver.proofs.Following.{counts-pass, follows-some, follows-way}
-use Rattle.nest_solver.proofs.Putting.{putting-more, putting-room}
-use Rattle.std.proofs.lemmas.Bool.{cases_Bool}
+use Rattle.nest_solver.proofs.Putting.{counted-next, putting-more, putting-room}
+use Rattle.nest_solver.proofs.Levels.{levels-swept}
+use Rattle.std.proofs.lemmas.Bool.{cases_Bool, cases_lt}
 use Rattle.std.proofs.Common.{mul-le-mul_right}
 use Rattle.nest_solver.specs.Groups.{AreGrouped}
 use Rattle.nest_solver.proofs.Sums.{sum-le}
@@ -192,8 +193,38 @@ chain-on s depth k heads next chains u deep = record {
 
 pub chain-start : (s : Shape) (depth : ℕ) (heads next : ℕ → ℕ) → AreGrouped s.depth (s.loops + 1) heads next →
     (0 < heads depth → IsUpTo s.loops (heads depth) × (s.depth (heads depth) ≡ depth))
-    × ((l : ℕ) → IsUpTo s.loops l → s.depth l ≡ depth → l ≤ heads depth)
+    × ((l : ℕ) → IsUpTo s.loops l → s.depth l ≡ depth → l ≤ heads depth) × (heads depth ≤ s.loops)
 chain-start s depth heads next chains = (
   λ some. (omega (arith, some, chains.first_low depth some), chains.first_key depth some),
   λ l u e. subst (λ (d : ℕ). l ≤ heads d) e (chains.first_most l (omega (arith, u)) (omega (arith, u))),
+  elim (cases_lt 0 (heads depth)) as (λ _. heads depth ≤ s.loops) [
+    | inl some ↦ omega (arith, chains.first_low depth some)
+    | inr none ↦ omega (arith, none)
+  ],
 )
+
+-- With no loop of the depth left the level is done.
+pub level-done : (s : Shape) (value turns : ℕ → ℕ) (path : List ℕ) (total depth : ℕ) (best choice start counts : ℕ → ℕ) →
+    IsNest s → IsBegun s value turns path total depth best choice start →
+    IsPutting s (weight_of s value turns) turns start depth 0 counts →
+    IsCountedTo s (weight_of s value turns) turns path depth counts
+level-done s value turns path total depth best choice start counts nest begun putting =
+    let deep : depth ≡ suc (depth - 1) = omega (arith, begun.deep) in
+    subst (λ (d : ℕ). IsCountedTo s (weight_of s value turns) turns path d counts) (sym deep)
+    (counted-next s (weight_of s value turns) turns start counts (depth - 1) path nest begun.counted
+    (subst (λ (d : ℕ). IsPutting s (weight_of s value turns) turns start d 0 counts) deep putting))
+
+-- A level begins where all loops are solved and the lesser depths are put back.
+pub begun-from : (s : Shape) (price weight turns : ℕ → ℕ) (path : List ℕ) (total depth : ℕ)
+    (round best choice start : ℕ → ℕ) → 0 < depth → IsReady s price weight turns path total (depth - 1) start →
+    IsRound s depth round → IsSwept s depth round weight best choice →
+    IsBegun s (value_at_end s price) turns path total depth best choice start
+begun-from s price weight turns path total depth round best choice start some ready rounds swept =
+    record {
+      settled = ready.settled;
+      deep = some;
+      counted = ready.counted;
+      round = round;
+      rounds = rounds;
+      swept = levels-swept s price weight turns round best choice depth 1 ready.levels swept;
+    }
