@@ -1,5 +1,5 @@
 -- What the tables tell of an arc that enters a loop.
-use Rattle.std.proofs.Common.{◌≡◌, ℕ, ◌+◌, ◌-◌, ◌*◌, ◌<◌, ◌≤◌, Bool, true, false, List, length, get_or, ap, ap₂, subst, sym, arith, ◌∙◌}
+use Rattle.std.proofs.Common.{◌≡◌, ℕ, ◌-◌, ◌*◌, Bool, false, List, length, get_or, ap, subst, sym, arith, ◌∙◌}
 use Rattle.flow_net.specs.Nested.{IsNested}
 use Rattle.flow_net.specs.Numbers.{item_at}
 use Rattle.flow_net.specs.Visits.{target_of}
@@ -8,7 +8,7 @@ use Rattle.ipet_program.specs.Scopes.{bound_of}
 use Rattle.nest_solver.specs.Levels.{extra}
 use Rattle.nest_solver.specs.Nets.{entry}
 use Rattle.nest_solver.specs.Plain.{AreTables, plain}
-use Rattle.nest_solver.specs.Shape.{IsUpTo, is_back, target}
+use Rattle.nest_solver.specs.Shape.{IsUpTo, target}
 use Rattle.nest_solver.specs.Tables.{test_at}
 use Rattle.nest_solver.specs.declared.tables.Tables.{Tables}
 use Rattle.nest_solver.proofs.Heading.{marks-low}

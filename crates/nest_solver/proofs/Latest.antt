@@ -1,9 +1,8 @@
 -- The last arcs from places, noted as the arcs come in their order.
-use Rattle.std.proofs.Common.{◌≡◌, ◌⊎◌, ℕ, ◌+◌, ◌-◌, ◌*◌, ◌^◌, ◌<◌, ◌≤◌, ◌==◌, nat_lt, cond, Bool, List, length, get_or, refl, sym, ap, ◌∙◌, subst, inl, inr, arith}
-use Rattle.std.proofs.lemmas.Bool.{cases_eq, cases_lt}
+use Rattle.std.proofs.Common.{◌≡◌, ℕ, ◌+◌, ◌-◌, ◌*◌, ◌^◌, ◌<◌, ◌≤◌, ◌==◌, nat_lt, cond, List, length, sym, ap, ◌∙◌, inl, inr, arith}
+use Rattle.std.proofs.lemmas.Bool.{cases_eq}
 use Rattle.std.proofs.lemmas.Bool.Decides.{nat_tests}
 use Rattle.std.proofs.lemmas.List.{get_or_past}
-use Rattle.flow_net.specs.Nested.{IsNested}
 use Rattle.flow_net.specs.declared.net.Net.{Net}
 use Rattle.nest_solver.specs.Bases.{AreLatest, base_by, rank_by}
 use Rattle.nest_solver.specs.Nets.{entry}
@@ -11,7 +10,7 @@ use Rattle.nest_solver.specs.Orders.{Arcs, arcs_of}
 use Rattle.nest_solver.specs.Plain.{AreTables, plain}
 use Rattle.nest_solver.specs.Shape.{IsRising, IsUpTo}
 use Rattle.nest_solver.specs.declared.tables.Tables.{Tables}
-use Rattle.nest_solver.proofs.Plains.{tables-back, tables-behind}
+use Rattle.nest_solver.proofs.Plains.{tables-behind}
 use Rattle.nest_solver.proofs.Puts.{Puts}
 
 pub latest-none : (a : Arcs) (position latest : ℕ → ℕ) → ((i : ℕ) → IsUpTo a.count i → 0 < position i) →

@@ -1,15 +1,15 @@
 -- One depth more is solved.
-use Rattle.std.proofs.Common.{◌≡◌, ◌⊎◌, ℕ, suc, ◌+◌, ◌-◌, ◌*◌, ◌<◌, ◌≤◌, ◌==◌, ◌&&◌, not, cond, Bool, true, false, refl, sym, ap, ◌∙◌, subst, inl, inr, arith, true≢false, mul-le-mul_left}
+use Rattle.std.proofs.Common.{◌≡◌, ℕ, suc, ◌+◌, ◌-◌, ◌*◌, ◌<◌, ◌≤◌, ◌==◌, ◌&&◌, not, cond, Bool, true, false, refl, sym, ap, ◌∙◌, subst, inl, inr, arith, true≢false, mul-le-mul_left}
 use Rattle.std.proofs.lemmas.Bool.{cases_eq, cases_Bool, cases_lt}
 use Rattle.std.proofs.lemmas.Bool.Decides.{nat_tests}
 use Rattle.ipet_program.specs.Programs.{crude_limit}
 use Rattle.ipet_program.specs.Sums.{sum_to}
 use Rattle.nest_solver.specs.Crude.{IsCrude, grown}
-use Rattle.nest_solver.specs.Levels.{AreLevels, IsRoomy, SomeLevels, extra, turned}
+use Rattle.nest_solver.specs.Levels.{AreLevels, IsRoomy, extra}
 use Rattle.nest_solver.specs.Nets.{value_at_end}
 use Rattle.nest_solver.specs.Shape.{Shape, IsNest, IsUpTo, is_back, is_entering, target}
 use Rattle.nest_solver.specs.Solved.{AreSolved, AreTurns, paid, weight_of}
-use Rattle.nest_solver.specs.Ways.{HasRoom, IsRound, IsSwept, closes, goes_on}
+use Rattle.nest_solver.specs.Ways.{HasRoom, IsRound, IsSwept}
 use Rattle.nest_solver.proofs.Arcs.{entering-of}
 use Rattle.nest_solver.proofs.Products.{grown-most, grown-none}
 use Rattle.nest_solver.proofs.Room.{room-level, room-weight}

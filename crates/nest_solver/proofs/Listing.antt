@@ -1,5 +1,5 @@
 -- Multipliers and counts listed one after the other.
-use Rattle.std.proofs.Common.{◌≡◌, ℕ, suc, ◌+◌, ◌-◌, ◌≤◌, List, ◌++◌, sym, ap, ◌∙◌, subst, arith}
+use Rattle.std.proofs.Common.{◌≡◌, ℕ, suc, ◌+◌, ◌-◌, ◌≤◌, List, ◌++◌, ap, ◌∙◌, arith}
 use Rattle.ipet_program.specs.declared.certificate.Count.{Count}
 use Rattle.ipet_program.specs.declared.leaf.Weight.{Weight}
 use Rattle.nest_solver.specs.Answers.{count_at, counts_to}

@@ -1,10 +1,10 @@
 -- The queue ends with all arcs, in an order.
-use Rattle.std.proofs.Common.{◌≡◌, ◌⊎◌, ℕ, zero, suc, ◌+◌, ◌-◌, ◌<◌, ◌≤◌, ◌==◌, ◌&&◌, ◌||◌, nat_lt, Bool, true, false, List, length, refl, sym, ap, ◌∙◌, subst, inl, inr, arith, true≢false}
+use Rattle.std.proofs.Common.{◌≡◌, ℕ, zero, suc, ◌+◌, ◌<◌, ◌≤◌, ◌==◌, ◌&&◌, ◌||◌, nat_lt, Bool, true, false, List, length, refl, ap, ◌∙◌, inl, inr, arith, true≢false}
 use Rattle.std.proofs.lemmas.Bool.Decides.{nat_tests}
 use Rattle.std.proofs.lemmas.Bool.{cases_eq, cases_Bool}
 use Rattle.ipet_program.specs.Sums.{sum_to}
 use Rattle.nest_solver.specs.Counted.{bit}
-use Rattle.nest_solver.specs.Orders.{Arcs, AreAcyclic, AreOpen, IsOrder, IsQueue, is_pending, waits}
+use Rattle.nest_solver.specs.Orders.{Arcs, AreAcyclic, AreOpen, IsOrder, IsQueue, is_pending}
 use Rattle.nest_solver.specs.Shape.{IsUpTo}
 use Rattle.nest_solver.proofs.Queues.{queue-short}
 use Rattle.nest_solver.proofs.Sums.{sum-none, sum-part}

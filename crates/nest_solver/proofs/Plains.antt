@@ -1,8 +1,8 @@
 -- What the tables of a net tell of its plain tables.
-use Rattle.std.proofs.Common.{◌≡◌, ℕ, ◌+◌, ◌-◌, ◌<◌, ◌≤◌, Bool, false, List, length, get_or, sym, ap, subst, ◌∙◌, arith}
+use Rattle.std.proofs.Common.{◌≡◌, ℕ, ◌+◌, ◌-◌, ◌<◌, Bool, List, length, get_or, sym, ap, subst, ◌∙◌, arith}
 use Rattle.flow_net.specs.Nested.{IsNested}
 use Rattle.flow_net.specs.declared.net.Net.{Net}
-use Rattle.nest_solver.specs.Nets.{HasDepths, HasHeaders, entry, round_by, shape_of}
+use Rattle.nest_solver.specs.Nets.{HasDepths, HasHeaders, entry, round_by}
 use Rattle.nest_solver.specs.Orders.{AreAcyclic, arcs_of}
 use Rattle.nest_solver.specs.Plain.{AreTables, IsUpSomewhere, plain}
 use Rattle.nest_solver.specs.Shape.{IsNest, IsUpTo, is_back}

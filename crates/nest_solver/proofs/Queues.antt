@@ -1,12 +1,12 @@
 -- Arcs put into the queue and taken from it.
-use Rattle.std.proofs.Common.{◌≡◌, ◌⊎◌, ℕ, zero, suc, ◌+◌, ◌-◌, ◌<◌, ◌≤◌, ◌==◌, ◌&&◌, ◌||◌, nat_lt, Bool, true, false, List, [], ◌∷◌, ◌++◌, length, refl, sym, ap, ◌∙◌, subst, inl, inr, arith, length-append, true≢false}
-use Rattle.std.proofs.lemmas.Bool.{cases_eq, cases_lt, cases_Bool}
+use Rattle.std.proofs.Common.{◌≡◌, ℕ, zero, suc, ◌+◌, ◌-◌, ◌<◌, ◌≤◌, ◌==◌, ◌&&◌, ◌||◌, nat_lt, Bool, true, false, List, [], ◌∷◌, ◌++◌, length, refl, sym, ap, ◌∙◌, subst, inl, inr, arith, length-append, true≢false}
+use Rattle.std.proofs.lemmas.Bool.{cases_eq, cases_lt}
 use Rattle.std.proofs.lemmas.Bool.Decides.{nat_tests}
 use Rattle.std.proofs.lemmas.List.{get_or_append_left, get_or_push}
 use Rattle.ipet_program.specs.Sums.{sum_to}
 use Rattle.nest_solver.specs.Counted.{bit}
 use Rattle.nest_solver.specs.Nets.{entry}
-use Rattle.nest_solver.specs.Orders.{Arcs, AreOpen, IsOrder, IsQueue, is_pending, waits}
+use Rattle.nest_solver.specs.Orders.{Arcs, IsQueue, is_pending, waits}
 use Rattle.nest_solver.specs.Shape.{IsUpTo}
 use Rattle.nest_solver.proofs.Puts.{Puts}
 use Rattle.nest_solver.proofs.Sums.{sum-part, sum-same, up_last, up_more}

@@ -1,14 +1,13 @@
 -- Worths raised one place after the other.
-use Rattle.std.proofs.Common.{◌≡◌, ◌⊎◌, ℕ, zero, suc, Option, None, ◌+◌, ◌-◌, ◌*◌, ◌^◌, ◌<◌, ◌≤◌, ◌&&◌, nat_lt, max, cond, Bool, true, false, List, length, get_or, refl, sym, ap, ap₂, ◌∙◌, subst, inl, inr, arith}
+use Rattle.std.proofs.Common.{◌≡◌, ℕ, zero, suc, Option, None, ◌+◌, ◌-◌, ◌^◌, ◌<◌, ◌≤◌, ◌&&◌, nat_lt, max, cond, Bool, List, length, sym, ap, ap₂, ◌∙◌, inl, inr, arith}
 use Rattle.std.proofs.lemmas.Bool.{cases_eq, cases_lt}
 use Rattle.std.proofs.lemmas.Bool.Decides.{nat_tests}
 use Rattle.std.proofs.lemmas.Option.{slice_get_past}
-use Rattle.flow_net.specs.Nested.{IsNested}
 use Rattle.flow_net.specs.Numbers.{item_at}
 use Rattle.flow_net.specs.declared.net.Place.{Place}
 use Rattle.flow_net.specs.declared.net.Net.{Net}
 use Rattle.nest_solver.specs.Nets.{AreUp, entry, round_by, scope_of}
-use Rattle.nest_solver.specs.Plain.{AreTables, IsTurnedSomewhere, plain}
+use Rattle.nest_solver.specs.Plain.{plain}
 use Rattle.nest_solver.specs.Shape.{Shape, IsNest, IsUpTo}
 use Rattle.nest_solver.specs.Solved.{lifted}
 use Rattle.nest_solver.specs.Ways.{IsRound}

@@ -1,5 +1,5 @@
 -- Before any level is solved, and what the levels show when all are.
-use Rattle.std.proofs.Common.{◌≡◌, ℕ, suc, ◌+◌, ◌-◌, ◌*◌, ◌^◌, ◌<◌, ◌≤◌, false, List, length, refl, sym, ap, ◌∙◌, subst, arith, unsigned_abs}
+use Rattle.std.proofs.Common.{◌≡◌, ℕ, ◌+◌, ◌-◌, ◌^◌, ◌≤◌, false, length, sym, ap, ◌∙◌, subst, arith, unsigned_abs}
 use Rattle.flow_net.specs.Nested.{IsNested}
 use Rattle.flow_net.specs.Numbers.{item_at}
 use Rattle.flow_net.specs.declared.net.Net.{Net}
@@ -9,11 +9,11 @@ use Rattle.ipet_program.specs.declared.program.Program.{Program}
 use Rattle.ipet_program.proofs.Numbered.{length-numbered}
 use Rattle.nest_solver.specs.Answers.{AreWorths, ShowsGreatest}
 use Rattle.nest_solver.specs.Bases.{AreRanks, base_by, rank_by}
-use Rattle.nest_solver.specs.LeafWeights.{IsLeafOf, weights_to}
+use Rattle.nest_solver.specs.LeafWeights.{weights_to}
 use Rattle.nest_solver.specs.Levels.{AreLevels}
 use Rattle.nest_solver.specs.Nets.{AreUp, entry, round_by, value_at_end}
 use Rattle.nest_solver.specs.Plain.{AreTables, plain}
-use Rattle.nest_solver.specs.Shape.{Shape, IsNest, IsUpTo}
+use Rattle.nest_solver.specs.Shape.{Shape, IsNest}
 use Rattle.nest_solver.specs.Solved.{base_worth, weight_of}
 use Rattle.nest_solver.specs.Tables.{IsFew}
 use Rattle.nest_solver.specs.Values.{AreValues, times_of}
@@ -25,7 +25,7 @@ use Rattle.nest_solver.proofs.Levels.{levels-light, levels-none, levels-swept}
 use Rattle.nest_solver.proofs.NetShape.{round-up}
 use Rattle.nest_solver.proofs.Plains.{tables-nest}
 use Rattle.nest_solver.proofs.Rows.{value-table}
-use lib.IntN.{ℤ, pos}
+use lib.IntN.{pos}
 
 -- The program has a value for each arc.
 pub values-count : (net : Net) (price : ℕ → ℕ) (program : Program) → IsProgramOf net price program →

@@ -1,12 +1,12 @@
 -- One arc more is looked at in a sweep.
-use Rattle.std.proofs.Common.{◌≡◌, ◌⊎◌, ℕ, ◌+◌, ◌<◌, ◌≤◌, cond, Bool, true, false, refl, sym, ap, ◌∙◌, subst, inl, inr, arith, true≢false}
-use Rattle.std.proofs.lemmas.Bool.{cases_eq, cases_lt}
+use Rattle.std.proofs.Common.{◌≡◌, ℕ, ◌+◌, ◌<◌, ◌≤◌, cond, Bool, true, false, refl, sym, ap, ◌∙◌, subst, inl, inr, arith}
+use Rattle.std.proofs.lemmas.Bool.{cases_eq}
 use Rattle.nest_solver.specs.Shape.{Shape, IsUpTo, is_back}
 use Rattle.nest_solver.specs.Sweeps.{IsSoFar}
 use Rattle.nest_solver.specs.Ways.{HasRoom, IsSwept, closes, goes_on, reach}
 use Rattle.nest_solver.proofs.Arcs.{goes_on-out}
 use Rattle.nest_solver.proofs.Puts.{Puts}
-use Rattle.nest_solver.proofs.Solving.{reach-cases, reach-closes, reach-goes}
+use Rattle.nest_solver.proofs.Solving.{reach-cases, reach-closes}
 
 -- Each arc that isn't a back arc stands behind those from where it goes to.
 pub record AreBehind (s : Shape) (position : ℕ → ℕ) : Type 0 where

@@ -1,5 +1,5 @@
 -- Worths of one depth more, by the levels as they were solved.
-use Rattle.std.proofs.Common.{◌≡◌, ℕ, suc, ◌+◌, ◌-◌, ◌*◌, ◌^◌, ◌<◌, ◌≤◌, subst, sym, arith}
+use Rattle.std.proofs.Common.{◌≡◌, ℕ, suc, ◌-◌, ◌^◌, ◌<◌, ◌≤◌, subst, sym, arith}
 use Rattle.nest_solver.specs.Answers.{AreWorths}
 use Rattle.nest_solver.specs.Levels.{AreLevels}
 use Rattle.nest_solver.specs.Nets.{value_at_end}

@@ -1,5 +1,5 @@
 -- Levels solved down to a depth, with the weights that the arcs have then.
-use Rattle.std.specs.Prelude.{◌≡◌, ℕ, suc, ◌+◌, ◌-◌, ◌*◌, ◌<◌, ◌≤◌, ◌==◌, ◌&&◌, if◌then◌else◌}
+use Rattle.std.specs.Prelude.{◌≡◌, ℕ, ◌-◌, ◌*◌, ◌<◌, ◌==◌, ◌&&◌, if◌then◌else◌}
 use Rattle.ipet_program.specs.Programs.{crude_limit}
 use Rattle.nest_solver.specs.Crude.{IsCrude}
 use Rattle.nest_solver.specs.Nets.{value_at_end}

@@ -1,5 +1,5 @@
 -- The tables of a net, and the plain tables of the net that they tell.
-use Rattle.std.specs.Prelude.{◌≡◌, ℕ, ◌+◌, ◌-◌, List, length}
+use Rattle.std.specs.Prelude.{◌≡◌, ℕ, ◌+◌, ◌-◌, length}
 use Rattle.flow_net.specs.Numbers.{item_at}
 use Rattle.flow_net.specs.declared.net.Net.{Net}
 use Rattle.nest_solver.specs.Nets.{AreUp, HasHeaders, entry, header_of, shape_of}

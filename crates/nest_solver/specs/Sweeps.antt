@@ -1,7 +1,7 @@
 -- The longest ways of a level as far as the arcs were looked at in their order.
 use Rattle.std.specs.Prelude.{◌≡◌, ℕ, ◌+◌, ◌<◌, ◌≤◌}
 use Rattle.nest_solver.specs.Shape.{Shape, IsUpTo}
-use Rattle.nest_solver.specs.Ways.{HasRoom, IsSwept, reach}
+use Rattle.nest_solver.specs.Ways.{HasRoom, reach}
 
 -- What holds once the arcs at the positions up to k were looked at.
 pub record IsSoFar (s : Shape) (depth : ℕ) (round weight best choice position : ℕ → ℕ) (limit k : ℕ) : Type 0 where

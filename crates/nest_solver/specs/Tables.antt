@@ -1,5 +1,5 @@
 -- The tables that are made of a net once.
-use Rattle.std.specs.Prelude.{◌≡◌, ℕ, ◌+◌, ◌^◌, ◌<◌, ◌≤◌, ◌==◌, ◌&&◌, not, Bool, true, false, List, length, slice_index_or}
+use Rattle.std.specs.Prelude.{◌≡◌, ℕ, ◌+◌, ◌^◌, ◌≤◌, ◌==◌, ◌&&◌, not, Bool, false, List, length, slice_index_or}
 use Rattle.flow_net.specs.Numbers.{item_at}
 use Rattle.flow_net.specs.Visits.{target_of}
 use Rattle.flow_net.specs.declared.net.Net.{Net}

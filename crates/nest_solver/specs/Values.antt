@@ -1,5 +1,5 @@
 -- The values of a program's columns, and the multipliers of its rows, as the code reads them.
-use Rattle.std.specs.Prelude.{◌≡◌, ℕ, ◌+◌, ◌-◌, ◌≤◌, ◌==◌, nat_le, ℤ, pos, ◌-ℤ◌, length, if◌then◌else◌}
+use Rattle.std.specs.Prelude.{◌≡◌, ℕ, ◌+◌, ◌-◌, ◌==◌, nat_le, ℤ, pos, ◌-ℤ◌, length, if◌then◌else◌}
 use Rattle.std.specs.Prelude.{unsigned_abs}
 use Rattle.ipet_program.specs.Leaves.{value_at}
 use Rattle.ipet_program.specs.declared.program.Program.{Program}

@@ -1,4 +1,4 @@
-use Rattle.std.proofs.Common.{◌≡◌, ℕ, ◌+◌, ◌-◌, ◌<◌, ◌≤◌, ◌^◌, List, length, ap, subst, sym, arith}
+use Rattle.std.proofs.Common.{◌+◌, ◌-◌, arith}
 use Rattle.nest_solver.specs.Nets.{entry}
 use Rattle.nest_solver.proofs.Puts.{puts-set}
 use Rattle.nest_solver.proofs.Sources.{left-more, left-pass, left-small, source-within}

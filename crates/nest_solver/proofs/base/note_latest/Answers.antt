@@ -1,5 +1,4 @@
-use Rattle.std.proofs.Common.{◌≡◌, ℕ, ◌+◌, ◌<◌, ◌≤◌, length, set, sym, ◌∙◌, arith, subst, ap}
-use Rattle.nest_solver.specs.Bases.{AreLatest}
+use Rattle.std.proofs.Common.{ℕ, ◌+◌, ◌<◌, length, set, sym, ◌∙◌, arith, subst}
 use Rattle.nest_solver.specs.Nets.{entry}
 use Rattle.nest_solver.specs.Orders.{arcs_of}
 use Rattle.nest_solver.proofs.Latest.{latest-more, latest-rises}

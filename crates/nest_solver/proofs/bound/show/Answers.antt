@@ -1,7 +1,7 @@
-use Rattle.std.proofs.Common.{◌≡◌, ℕ, ◌+◌, ◌≤◌, ◌^◌, ◌∙◌, length, arith, ap}
+use Rattle.std.proofs.Common.{ℕ, ◌+◌, ◌∙◌, length, arith, ap}
 use Rattle.nest_solver.specs.LeafWeights.{weights_to}
 use Rattle.nest_solver.specs.Values.{times_of}
-use Rattle.nest_solver.specs.Nets.{entry, round_by}
+use Rattle.nest_solver.specs.Nets.{entry}
 use Rattle.nest_solver.specs.Bases.{rank_by}
 use Rattle.nest_solver.specs.Plain.{plain}
 use Rattle.nest_solver.proofs.Facing.{base-low}

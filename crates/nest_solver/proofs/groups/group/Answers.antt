@@ -1,4 +1,4 @@
-use Rattle.std.proofs.Common.{◌≡◌, ℕ, ◌<◌, ◌≤◌, length, arith, subst}
+use Rattle.std.proofs.Common.{ℕ, arith, subst}
 use Rattle.nest_solver.specs.Groups.{AreGrouped}
 use Rattle.nest_solver.specs.Nets.{entry}
 use Rattle.nest_solver.proofs.Grouping.{grouped-none, grouped-more}

@@ -1,4 +1,3 @@
-use Rattle.std.proofs.Common.{◌≡◌, ℕ, ◌<◌, ◌≤◌, length}
 use Rattle.nest_solver.specs.Groups.{AreGrouped}
 use Rattle.nest_solver.specs.Nets.{entry}
 use Rattle.nest_solver.proofs.groups.group.Given as goal

@@ -1,4 +1,4 @@
-use Rattle.std.proofs.Common.{◌≡◌, ℕ, ◌+◌, ◌∷◌, [], ◌++◌, ◌≤◌, ◌<◌, Bool, List, false, length, subst, sym, arith, ap, length-append}
+use Rattle.std.proofs.Common.{◌≡◌, ℕ, ◌∷◌, [], ◌≤◌, Bool, List, false, length, subst, sym, arith, ap, length-append}
 use Rattle.nest_solver.specs.Nets.{entry}
 use Rattle.nest_solver.specs.Tables.{goes_back, test_at}
 use Rattle.nest_solver.proofs.Pushes.{pushed-all}

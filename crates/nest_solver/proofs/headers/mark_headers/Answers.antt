@@ -1,6 +1,5 @@
-use Rattle.std.proofs.Common.{◌≡◌, ℕ, set, ◌+◌, ◌≤◌, ◌<◌, length, subst, sym, arith, ap}
-use Rattle.nest_solver.specs.Nets.{entry, header_of}
-use Rattle.flow_net.specs.Numbers.{item_at}
+use Rattle.std.proofs.Common.{ℕ, set, length, subst, arith, ap}
+use Rattle.nest_solver.specs.Nets.{entry}
 use Rattle.nest_solver.specs.Shape.{IsUpTo}
 use Rattle.nest_solver.proofs.Heading.{header-up, marked-all, marked-more, marked-none}
 use Rattle.nest_solver.proofs.Puts.{Puts, puts-set}

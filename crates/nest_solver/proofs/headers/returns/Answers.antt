@@ -1,4 +1,4 @@
-use Rattle.std.proofs.Common.{◌≡◌, ℕ, ◌==◌, ◌&&◌, not, Bool, true, false, subst, sym, ap, ◌∙◌, arith, refl, true≢false}
+use Rattle.std.proofs.Common.{◌≡◌, ℕ, ◌==◌, ◌&&◌, not, Bool, true, false, sym, ap, ◌∙◌, arith, refl, true≢false}
 use Rattle.std.proofs.lemmas.Bool.Decides.{nat_tests}
 use Rattle.flow_net.specs.Numbers.{item_at}
 use Rattle.flow_net.specs.Visits.{target_of}
@@ -6,8 +6,7 @@ use Rattle.std.specs.Bool.{OnTrue, OnFalse}
 use Rattle.flow_net.specs.Scopes.{Holds}
 use Rattle.flow_net.specs.declared.net.Net.{Net}
 use Rattle.flow_net.specs.Nested.{IsNested}
-use Rattle.nest_solver.specs.Nets.{entry, holds_of, source_of}
-use Rattle.nest_solver.specs.Tables.{goes_back}
+use Rattle.nest_solver.specs.Nets.{entry, holds_of}
 use Rattle.nest_solver.proofs.NetShape.{held-told}
 use Rattle.nest_solver.proofs.headers.returns.Goals as goal
 

@@ -1,4 +1,4 @@
-use Rattle.std.proofs.Common.{◌≡◌, ℕ, ◌+◌, ◌<◌, List, All, AllPairs, length, sym, subst, refl}
+use Rattle.std.proofs.Common.{◌≡◌, ◌+◌, ◌<◌, All, AllPairs, length, sym, subst, refl}
 use Rattle.ipet_program.specs.declared.leaf.Weight.{Weight}
 use Rattle.nest_solver.specs.Nets.{entry}
 use Rattle.nest_solver.specs.Values.{times_of}

@@ -1,4 +1,4 @@
-use Rattle.std.proofs.Common.{◌≡◌, ℕ, ◌-◌}
+use Rattle.std.proofs.Common.{◌≡◌, ◌-◌}
 use Rattle.nest_solver.specs.LeafWeights.{weights_to}
 use Rattle.nest_solver.specs.Nets.{entry}
 use Rattle.nest_solver.specs.Values.{times_of}

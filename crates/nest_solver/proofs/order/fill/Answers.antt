@@ -1,4 +1,4 @@
-use Rattle.std.proofs.Common.{◌≡◌, ℕ, ◌+◌, ◌-◌, ◌<◌, ◌≤◌, List, [], length, arith, sym, subst, ap}
+use Rattle.std.proofs.Common.{ℕ, ◌+◌, List, length, sym, subst}
 use Rattle.nest_solver.specs.Nets.{entry}
 use Rattle.nest_solver.specs.Orders.{IsOpening, arcs_of}
 use Rattle.nest_solver.proofs.Opens.{opening-none}

@@ -1,4 +1,4 @@
-use Rattle.std.proofs.Common.{◌≡◌, ℕ, ◌+◌, ◌∙◌, ◌<◌, ◌≤◌, List, length, ap, subst, sym, arith}
+use Rattle.std.proofs.Common.{ℕ, ◌∙◌, length, ap, subst, sym, arith}
 use Rattle.nest_solver.specs.Nets.{entry}
 use Rattle.nest_solver.specs.Orders.{IsOpening, arcs_of}
 use Rattle.nest_solver.specs.Shape.{IsUpTo}

@@ -1,4 +1,4 @@
-use Rattle.std.proofs.Common.{ℕ, ◌+◌, length}
+use Rattle.std.proofs.Common.{◌+◌, length}
 use Rattle.nest_solver.specs.Nets.{entry}
 use Rattle.nest_solver.specs.Orders.{IsOpening, arcs_of}
 use Rattle.nest_solver.proofs.order.open_ends.Given as goal

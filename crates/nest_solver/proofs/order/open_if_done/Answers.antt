@@ -1,7 +1,7 @@
-use Rattle.std.proofs.Common.{◌≡◌, ℕ, ◌+◌, ◌<◌, length, arith}
+use Rattle.std.proofs.Common.{◌+◌, length, arith}
 use Rattle.nest_solver.specs.Nets.{entry}
-use Rattle.nest_solver.specs.Orders.{IsOpening, arcs_of}
-use Rattle.nest_solver.proofs.Opens.{opening-any, opening-first, opening-low}
+use Rattle.nest_solver.specs.Orders.{arcs_of}
+use Rattle.nest_solver.proofs.Opens.{opening-any, opening-first}
 use Rattle.nest_solver.proofs.order.open_if_done.Goals as goal
 
 pub returns : goal.returns

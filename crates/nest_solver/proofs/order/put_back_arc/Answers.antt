@@ -1,4 +1,4 @@
-use Rattle.std.proofs.Common.{◌≡◌, ℕ, ◌+◌, ◌<◌, List, length, set, subst, sym, arith}
+use Rattle.std.proofs.Common.{ℕ, ◌+◌, List, length, set, subst, sym, arith}
 use Rattle.nest_solver.specs.Nets.{entry}
 use Rattle.nest_solver.specs.Orders.{IsOpening, arcs_of}
 use Rattle.nest_solver.proofs.Puts.{puts-set}

@@ -1,7 +1,7 @@
-use Rattle.std.proofs.Common.{◌≡◌, ℕ, ◌+◌, ◌++◌, ◌∷◌, [], ◌<◌, Bool, List, length, set, subst, sym, arith}
+use Rattle.std.proofs.Common.{ℕ, ◌+◌, List, length, set, subst, sym, arith}
 use Rattle.nest_solver.specs.Nets.{entry}
 use Rattle.nest_solver.specs.Orders.{IsOpening, arcs_of}
-use Rattle.nest_solver.proofs.Puts.{Puts, puts-set}
+use Rattle.nest_solver.proofs.Puts.{puts-set}
 use Rattle.nest_solver.proofs.Opens.{opening-put, opening-skip}
 use Rattle.nest_solver.proofs.order.put_forward.Goals as goal
 

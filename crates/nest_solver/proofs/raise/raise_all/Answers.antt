@@ -1,4 +1,4 @@
-use Rattle.std.proofs.Common.{◌≡◌, ℕ, ◌+◌, ◌-◌, ◌*◌, ◌^◌, ◌≤◌, length, subst, sym, arith}
+use Rattle.std.proofs.Common.{◌≡◌, ℕ, ◌+◌, ◌-◌, ◌*◌, ◌^◌, ◌≤◌, length, subst, arith}
 use Rattle.nest_solver.specs.Answers.{AreWorths}
 use Rattle.nest_solver.specs.Nets.{entry, value_at_end}
 use Rattle.nest_solver.specs.Plain.{plain}

@@ -1,4 +1,4 @@
-use Rattle.std.proofs.Common.{◌≡◌, ℕ, ◌-◌, ◌≤◌, ◌^◌, arith}
+use Rattle.std.proofs.Common.{arith}
 use Rattle.nest_solver.specs.Nets.{entry, round_by}
 use Rattle.nest_solver.specs.Plain.{plain}
 use Rattle.nest_solver.proofs.Levels.{levels-roomy_all}

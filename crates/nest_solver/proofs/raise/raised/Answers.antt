@@ -1,5 +1,5 @@
 -- The loop round the place is a loop instance, and its header a place.
-use Rattle.std.proofs.Common.{◌≡◌, ℕ, arith}
+use Rattle.std.proofs.Common.{arith}
 use Rattle.nest_solver.specs.Nets.{entry}
 use Rattle.nest_solver.proofs.Heading.{header-up}
 use Rattle.nest_solver.proofs.Plains.{round-here}

@@ -1,4 +1,3 @@
-use Rattle.std.proofs.Common.{◌≡◌, ℕ}
 use Rattle.nest_solver.specs.Nets.{entry, round_by}
 use Rattle.nest_solver.proofs.NetShape.{round-up}
 use Rattle.nest_solver.proofs.solve.level.Goals as goal

@@ -1,5 +1,4 @@
-use Rattle.std.proofs.Common.{◌≡◌, ℕ, suc, ◌+◌, ◌-◌, ◌<◌, ◌≤◌, ap, subst, arith}
-use Rattle.nest_solver.specs.Levels.{AreLevels}
+use Rattle.std.proofs.Common.{ap, arith}
 use Rattle.nest_solver.specs.Nets.{entry, round_by}
 use Rattle.nest_solver.specs.Plain.{plain}
 use Rattle.nest_solver.proofs.Forward.{entry-live}

@@ -1,5 +1,5 @@
-use Rattle.std.proofs.Common.{◌≡◌, ℕ, suc, ◌+◌, subst, arith}
-use Rattle.nest_solver.specs.Levels.{AreLevels, SomeLevels}
+use Rattle.std.proofs.Common.{subst, arith}
+use Rattle.nest_solver.specs.Levels.{AreLevels}
 use Rattle.nest_solver.specs.Nets.{entry, round_by}
 use Rattle.nest_solver.specs.Plain.{plain}
 use Rattle.nest_solver.proofs.Levels.{levels-fit, levels-more, levels-roomy}

@@ -1,10 +1,9 @@
 -- The arc read from the order is an arc, its source a place, and behind it there is room.
-use Rattle.std.proofs.Common.{◌≡◌, ℕ, ◌+◌, ◌<◌, ◌≤◌, List, length, set, sym, arith, subst, ap, ◌∙◌}
+use Rattle.std.proofs.Common.{◌≡◌, ℕ, ◌+◌, ◌≤◌, length, set, arith, subst, ap}
 use Rattle.ipet_program.specs.Programs.{crude_limit}
-use Rattle.nest_solver.specs.Nets.{entry, round_by, source_of}
-use Rattle.flow_net.specs.Numbers.{item_at}
+use Rattle.nest_solver.specs.Nets.{entry, round_by}
 use Rattle.nest_solver.specs.Plain.{plain}
-use Rattle.nest_solver.specs.Shape.{Shape, IsUpTo}
+use Rattle.nest_solver.specs.Shape.{Shape}
 use Rattle.nest_solver.specs.Ways.{reach}
 use Rattle.nest_solver.proofs.Plains.{order-arc, tables-behind}
 use Rattle.nest_solver.proofs.Puts.{Puts, puts-set}

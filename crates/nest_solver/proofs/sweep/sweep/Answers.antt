@@ -1,4 +1,3 @@
-use Rattle.std.proofs.Common.{ℕ}
 use Rattle.ipet_program.specs.Programs.{crude_limit}
 use Rattle.nest_solver.specs.Nets.{entry, round_by}
 use Rattle.nest_solver.specs.Plain.{plain}

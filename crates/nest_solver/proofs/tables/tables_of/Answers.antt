@@ -1,4 +1,4 @@
-use Rattle.std.proofs.Common.{◌≡◌, ℕ, Bool, List, length, subst, sym}
+use Rattle.std.proofs.Common.{ℕ, Bool, List, length, subst, sym}
 use Rattle.nest_solver.specs.Nets.{entry}
 use Rattle.nest_solver.specs.Orders.{AreAcyclic, arcs_of}
 use Rattle.nest_solver.specs.Tables.{AreBacks}

@@ -1,4 +1,4 @@
-use Rattle.std.proofs.Common.{◌≡◌, ℕ, arith}
+use Rattle.std.proofs.Common.{arith}
 use Rattle.nest_solver.proofs.Heading.{header-up}
 use Rattle.nest_solver.proofs.turns.turn_of.Goals as goal
 

@@ -1,4 +1,4 @@
-use Rattle.std.proofs.Common.{◌≡◌, ℕ, set, ◌+◌, ◌<◌, ◌≤◌, ◌∙◌, length, arith, ap, subst, sym}
+use Rattle.std.proofs.Common.{◌≡◌, ℕ, set, ◌∙◌, length, arith, ap, subst, sym}
 use Rattle.nest_solver.specs.Nets.{entry}
 use Rattle.nest_solver.specs.Shape.{IsUpTo}
 use Rattle.nest_solver.specs.Up.{AreRight}

@@ -1,7 +1,7 @@
-use Rattle.std.proofs.Common.{◌≡◌, ℕ, set, ◌+◌, ◌<◌, ◌≤◌, length, arith}
+use Rattle.std.proofs.Common.{set, arith}
 use Rattle.nest_solver.specs.Nets.{entry}
 use Rattle.nest_solver.proofs.Puts.{puts-set}
-use Rattle.nest_solver.proofs.Upward.{right-all, right-next, right-none}
+use Rattle.nest_solver.proofs.Upward.{right-none}
 use Rattle.nest_solver.proofs.up.up_of.Goals as goal
 
 pub loop-level-init : goal.loop-level-init

@@ -1,4 +1,4 @@
-use Rattle.std.proofs.Common.{◌≡◌, ℕ, ◌<◌, ◌≤◌, length}
+use Rattle.std.proofs.Common.{◌≡◌, length}
 use Rattle.nest_solver.specs.Nets.{entry}
 use Rattle.nest_solver.specs.Up.{AreRight}
 use Rattle.nest_solver.proofs.up.up_of.Given as goal

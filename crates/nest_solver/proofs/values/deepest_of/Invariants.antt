@@ -1,4 +1,4 @@
-use Rattle.std.proofs.Common.{◌≡◌, ℕ, ◌<◌, ◌≤◌}
+use Rattle.std.proofs.Common.{ℕ, ◌<◌, ◌≤◌}
 use Rattle.nest_solver.specs.Nets.{entry}
 use Rattle.nest_solver.proofs.values.deepest_of.Given as goal
 
