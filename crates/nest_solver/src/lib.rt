@@ -4,6 +4,7 @@
 mod arrivals;
 mod base;
 mod bound;
+mod counts;
 mod depths;
 mod entered;
 mod groups;
@@ -23,3 +24,4 @@ mod values;
 mod walk;
 
 pub use bound::nest_bound;
+pub use counts::nest_counts;
