@@ -1,6 +1,10 @@
 -- The way out is counted first, and there is room for it.
 use Rattle.std.proofs.Common.{◌≡◌, ℕ, ◌+◌, ◌-◌, ◌*◌, ◌^◌, ◌<◌, ◌≤◌, ◌==◌, List, [], ◌∷◌, length, sum_by, refl, sym, ap, ◌∙◌, subst, arith}
 use Rattle.std.proofs.lemmas.List.Sums.{sum_by-cons}
+use Rattle.std.proofs.lemmas.Bool.{cases_eq}
+use Rattle.std.proofs.Common.{inl, inr, set}
+use Rattle.nest_solver.proofs.Puts.{puts-set}
+use Rattle.nest_solver.proofs.Times.{bit_other, bit_same}
 use Rattle.flow_net.specs.Nested.{IsNested}
 use Rattle.flow_net.specs.declared.net.Net.{Net}
 use Rattle.ipet_program.specs.Programs.{IsProgramOf}
@@ -120,3 +124,13 @@ module _ (net : Net) (tables : Tables) (price : ℕ → ℕ) (program : Program)
       counts-greatest net price program (entry tables.scopes.depths.items) (entry tables.headed.items) turns
       (round_by net up) best choice counts deepest total (1 ∷ way) nested are.scopes.depths are.headed is levels.solved
       ways total-is ready.settled.out (λ l u. deep l) ready.counted
+
+-- A fresh table in which arc 1 came once.
+pub counts-first : (table : List ℕ) (i : ℕ) → ((k : ℕ) → entry table k ≡ 0) → 1 < length table →
+    entry (set table 1 1) i ≡ bit (1 == i)
+counts-first table i fresh low =
+    let puts = puts-set table 1 1 low in
+    elim (cases_eq i 1) as (λ _. entry (set table 1 1) i ≡ bit (1 == i)) [
+      | inl same ↦ ap (entry (set table 1 1)) same ∙ puts.here ∙ sym (bit_same 1 i (sym same))
+      | inr differ ↦ puts.others i differ ∙ fresh i ∙ sym (bit_other 1 i (λ e. differ (sym e)))
+    ]

@@ -2,12 +2,10 @@
 
 ghost use Rattle.std.specs.Prelude.{◌≡◌, ℕ, ◌+◌, ◌-◌, ◌<◌, ◌≤◌, ◌++◌, ◌^◌, IfOk, OnOk, length};
 ghost use Rattle.flow_net.specs.Nested.{IsNested};
-ghost use Rattle.ipet_program.specs.Programs.{IsProgramOf};
-ghost use Rattle.ipet_program.specs.declared.program.Program.{Program as Declared};
 ghost use Rattle.nest_solver.specs.Answers.{AreGreatest, count_at, counts_to};
-ghost use Rattle.nest_solver.specs.Levels.{AreLevels, SomeLevels};
 ghost use Rattle.nest_solver.specs.Nets.{IsProgramOfNet, entry};
 ghost use Rattle.nest_solver.specs.Plain.{AreTables, plain};
+ghost use Rattle.nest_solver.specs.Shown.{CountsFrom, SomeProgram};
 ghost use Rattle.nest_solver.specs.Tables.{IsFew};
 
 use crate::put_back::put_back;
@@ -75,11 +73,10 @@ fn count_all(
     requires often { length often.old ≡ length net.now.loops + 1 }
     requires counts { length counts.old ≡ length net.now.arcs + 1 }
     requires fresh { (i : ℕ) → entry counts.old i ≡ 0 }
-    requires levels { (price : ℕ → ℕ) × (program : Declared) × IsProgramOf net.now price program
-        × AreLevels (plain net.now tables.now) price (entry weights.old) (entry turns.old) (deepest + 1) }
-    ensures greatest { (price : ℕ → ℕ) (program : Declared) → IsProgramOf net.now price program →
-        AreLevels (plain net.now tables.now) price (entry weights.old) (entry turns.old) (deepest + 1) →
-        AreGreatest program (counts_to (entry counts.new) (length net.now.arcs)) }
+    requires levels { SomeProgram net.now tables.now (entry weights.old) (entry turns.old) (deepest + 1) }
+    ensures count { length counts.new ≡ length net.now.arcs + 1 }
+    ensures greatest { CountsFrom net.now tables.now (entry weights.old) (entry turns.old) (deepest + 1)
+        (counts_to (entry counts.new) (length net.now.arcs)) }
 {
     solve_all(net, tables, deepest, weights, turns, up, best, choice);
     counts[1] = 1;
@@ -87,6 +84,44 @@ fn count_all(
     put_back(
         net, tables, deepest, weights, turns, up, best, choice, often, counts,
     );
+}
+
+/// The counts of the longest run, by the values of the arcs and the given rooms.
+fn count(
+    alloc: Global,
+    net: &Net,
+    tables: &Tables,
+    deepest: usize,
+    weights: &mut [u64],
+    turns: &mut [u64],
+    up: &mut [usize],
+    best: &mut [u64],
+    choice: &mut [usize],
+    often: &mut [u64],
+    counts: &mut [u64],
+) -> Result<List<Count>, AllocError>
+    requires nested { IsNested net.now }
+    requires few { IsFew net.now }
+    requires tables { AreTables net.now tables.now }
+    requires deep { deepest ≤ length net.now.loops + 1 }
+    requires deepest { (scope : ℕ) → entry tables.now.scopes.depths.items scope ≤ deepest }
+    requires up { length up.old ≡ length net.now.loops + 1 }
+    requires weights { length weights.old ≡ length net.now.arcs + 1 }
+    requires turns { length turns.old ≡ length net.now.loops + 1 }
+    requires best { length best.old ≡ length net.now.places + 1 }
+    requires choice { length choice.old ≡ length net.now.places + 1 }
+    requires often { length often.old ≡ length net.now.loops + 1 }
+    requires counts { length counts.old ≡ length net.now.arcs + 1 }
+    requires fresh { (i : ℕ) → entry counts.old i ≡ 0 }
+    requires levels { SomeProgram net.now tables.now (entry weights.old) (entry turns.old) (deepest + 1) }
+    ensures greatest { IfOk result (λ listed. CountsFrom net.now tables.now (entry weights.old) (entry turns.old)
+        (deepest + 1) listed) }
+{
+    count_all(
+        net, tables, deepest, weights, turns, up, best, choice, often, counts,
+    );
+    let listed = list_all(alloc, counts)?;
+    Ok(listed)
 }
 
 /// Counts of the greatest value of the program of a nested net: those above 0, by rising column.
@@ -114,7 +149,8 @@ pub fn nest_counts(
     let mut choice = vec![in alloc; 0; places]?;
     let mut often = vec![in alloc; 0; scopes]?;
     let mut counts = vec![in alloc; 0; arcs]?;
-    count_all(
+    let listed = count(
+        alloc,
         net,
         &tables,
         deepest,
@@ -125,7 +161,6 @@ pub fn nest_counts(
         &mut choice,
         &mut often,
         &mut counts,
-    );
-    let listed = list_all(alloc, &counts)?;
+    )?;
     Ok(listed)
 }
