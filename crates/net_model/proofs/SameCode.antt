@@ -110,7 +110,7 @@ calls-same a b same function callee calls = record {
   };
 }
 
-function-same : (a b : Image) → IsSameCode a b → (entry function : ℕ) → IsFunction a entry function → IsFunction b entry function
+pub function-same : (a b : Image) → IsSameCode a b → (entry function : ℕ) → IsFunction a entry function → IsFunction b entry function
 function-same a b same entry _ main = main
 function-same a b same entry _ (further function callee is calls) =
     further function callee (function-same a b same entry function is) (calls-same a b same function callee calls)
