@@ -18,6 +18,9 @@ use Rattle.wcet_engine.specs.Arcs.{arc_to, arcs_from, ends_of, leaves, returns_i
 use Rattle.wcet_engine.specs.Table.{IsTable, listed, steps_in}
 use Rattle.loop_nest.proofs.Ordered.{first-in, nothing-in}
 use Rattle.net_model.specs.Units.{content_at}
+use Rattle.net_model.proofs.Followed.{unit-content}
+use Rattle.wcet_engine.specs.Unbuilt.{AreFollowed}
+use Rattle.wcet_engine.proofs.Following.{code-reached}
 use Rattle.unit_graph.specs.Contents.{AreReached}
 use Rattle.wcet_engine.proofs.Lefts.{stands-there}
 use Rattle.wcet_engine.proofs.Positions.{has_position}
@@ -138,8 +141,10 @@ counted-one (first ∷ more) (suc k) one there leaving =
     let sum = sum_by-cons (λ (r : Reached). cond (leaves r.content) 1 0) first more in
     omega (arith, sum, rest)
 
-pub returns-counted : (image : Image) (entry : ℕ) (reached : List Reached) → AreReached image entry reached → Returns image entry → 1 ≤ returns_in reached
-returns-counted image entry reached are back =
-    let has = has_position reached back.address (are.whole back.address back.reached) in
-    let content = stands-there image entry reached has.position has.is.one are has.is.there ∙ ap (content_at image) has.is.same ∙ back.stands in
+pub returns-counted : (image : Image) (entry : ℕ) (reached : List Reached) → AreFollowed image entry reached → Returns image entry → 1 ≤ returns_in reached
+returns-counted image entry reached of back =
+    let are = of.contents in
+    let has = has_position reached back.address (are.whole back.address (code-reached image entry back.address of.followed back.reached)) in
+    let content = stands-there image entry reached has.position has.is.one are has.is.there ∙ ap (content_at image) has.is.same
+    ∙ unit-content image back.address back.unit back.stands in
     counted-one reached has.position has.is.one has.is.there (ap leaves content ∙ back.returning)

@@ -11,13 +11,13 @@ use Rattle.loop_nest.proofs.Dominance.{body-reached, header-reached}
 use Rattle.loop_nest.proofs.NestLaws.{among}
 use Rattle.step_table.proofs.Seen.{slice_get-set_other, slice_get-set_same, slice_get-replicate}
 use Rattle.net_model.specs.Loops.{IsInBody}
-use Rattle.net_model.specs.Reached.{IsReached}
-use Rattle.unit_graph.specs.Contents.{AreReached}
 use Rattle.unit_graph.specs.declared.reached.Reached.{Reached}
 use Rattle.wcet_engine.specs.Around.{AreNearest, AreNearing, IsInner, IsNearestBy}
 use Rattle.wcet_engine.specs.Rows.{addresses_of}
 use Rattle.wcet_engine.specs.Table.{IsAt}
+use Rattle.wcet_engine.specs.Unbuilt.{AreFollowed}
 use Rattle.wcet_engine.proofs.AroundLaws.{body-of, loop-at, nearest-more, nearest-same, same-loop}
+use Rattle.wcet_engine.proofs.Following.{code-reached}
 use Rattle.wcet_engine.proofs.Positions.{same_place}
 
 -- The next unit of a rising body isn't one of those before it.
@@ -108,7 +108,7 @@ written-here image entry reached loops done l numbers k d place result number on
     (record { one = l; there = is.there; other = λ e. is.apart (address ∙ sym e); held = held }) is.inner)
 
 pub nearing-write : (image : Image) (entry : ℕ) (reached : List Reached) (loops : List Loop) (done : ℕ) (l : Loop) (numbers : List ℕ) (k d place result : ℕ) →
-    IsNest image entry loops → AreReached image entry reached → IsWritten reached loops done l numbers k d place result →
+    IsNest image entry loops → AreFollowed image entry reached → IsWritten reached loops done l numbers k d place result →
     AreNearing reached loops done (take k l.body) numbers → AreNearing reached loops done (take (k + 1) l.body) (set numbers place result)
 nearing-write image entry reached loops done l numbers k d place result nest contents is are = record {
   count = length-set numbers place result ∙ are.count;
@@ -126,7 +126,7 @@ nearing-write image entry reached loops done l numbers k d place result nest con
       let kept : slice_get numbers position ≡ Some number = sym (slice_get-set_other numbers place position result differ) ∙ here in
       elim (more-cases l.body k d one.address is.inside among) [
         | inl before ↦ are.seen position number one there kept before
-        | inr same ↦ absurd (differ (same_place reached place position is.at.one one contents.rising is.at.there there (is.at.same ∙ same)))
+        | inr same ↦ absurd (differ (same_place reached place position is.at.one one contents.contents.rising is.at.there there (is.at.same ∙ same)))
       ]
 
   left_by : (position number : ℕ) (one : Reached) → slice_get reached position ≡ Some one → slice_get (set numbers place result) position ≡ Some number →
@@ -168,18 +168,20 @@ nearest-none reached loops = record {
 }
 
 -- What the body of a loop holds is reached, and so is its header.
-pub body-among : (image : Image) (entry : ℕ) (reached : List Reached) (loops : List Loop) → AreReached image entry reached → IsNest image entry loops →
+pub body-among : (image : Image) (entry : ℕ) (reached : List Reached) (loops : List Loop) → AreFollowed image entry reached → IsNest image entry loops →
     (position : ℕ) (one : Loop) → slice_get loops position ≡ Some one → (address : ℕ) → Contains one.body address →
     Contains (addresses_of reached) address
 body-among image entry reached loops contents nest position one there address held =
     let is = loop-at image entry loops nest position one there in
-    contents.whole address (body-reached image entry one.header address (body-of image entry one is address held))
+    contents.contents.whole address (code-reached image entry address contents.followed
+    (body-reached image entry one.header address (body-of image entry one is address held)))
 
-pub header-among : (image : Image) (entry : ℕ) (reached : List Reached) (loops : List Loop) → AreReached image entry reached → IsNest image entry loops →
+pub header-among : (image : Image) (entry : ℕ) (reached : List Reached) (loops : List Loop) → AreFollowed image entry reached → IsNest image entry loops →
     (one : Loop) → Contains loops one → Contains (addresses_of reached) one.header
 header-among image entry reached loops contents nest one listed =
     let is = All-contains (IsLoop image entry) loops one nest.each listed in
-    contents.whole one.header (header-reached image entry one.header is.headed)
+    contents.contents.whole one.header (code-reached image entry one.header contents.followed
+    (header-reached image entry one.header is.headed))
 
 -- The number at a unit that is looked at next is that of an earlier loop.
 pub nearing-low : (reached : List Reached) (loops : List Loop) (done : ℕ) (body numbers : List ℕ) (k d place : ℕ) →

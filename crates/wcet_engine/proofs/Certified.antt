@@ -7,11 +7,11 @@ use Rattle.ipet_program.specs.Programs.{FitsImage}
 use Rattle.ipet_program.specs.declared.certificate.Certificate.{Certificate}
 use Rattle.net_model.specs.Faults.{HasNoFault}
 use Rattle.net_model.specs.Net.{IsNet}
-use Rattle.net_model.specs.Units.{content_at}
+use Rattle.net_model.specs.Targets.{unit_at}
 use Rattle.wcet_engine.specs.declared.analysis.Refused.{Refused}
 use Rattle.wcet_engine.specs.declared.analysis.Refused.TheVariants.{Fault, Memory}
 use Rattle.wcet_engine.specs.Code.{Certifies, IsCertified, TellsLargeNet, TellsTooLarge}
-use Rattle.wcet_engine.proofs.RunPaths.{stands-at}
+use Rattle.wcet_engine.proofs.Following.{code-stands}
 
 pub certified : (image : Image) (profile : Profile) (net : Net) → IsNet image image.entry net → (result : Result Certificate Refused) →
     IfOk result (Certifies image profile net) → IfOk result (IsCertified image profile)
@@ -31,6 +31,6 @@ too-large image profile net is (Err refused) told = large-net image profile net 
 -- The places of a net are units without a fault.
 pub fits-image : (image : Image) (entry : ℕ) (net : Net) → IsNet image entry net → HasNoFault image entry → FitsImage image net
 fits-image image entry net is faultless = λ k d inside.
-    let unit = stands-at image entry (get_or net.places k d).address faultless (is.reached k d inside)
-    (content_at image (get_or net.places k d).address) refl in
+    let unit = code-stands image entry (get_or net.places k d).address faultless (is.reached k d inside)
+    (unit_at image (get_or net.places k d).address) refl in
     record { unit = unit.0; stands = unit.1 }

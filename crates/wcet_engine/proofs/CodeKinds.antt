@@ -1,26 +1,27 @@
 -- Which faults an address can hold, and the first fault of the code and its loops.
-use Rattle.std.proofs.Common.{◌≡◌, ℕ, ◌+◌, ◌<◌, Bool, true, false, cond, List, Some, None, refl, subst, arith}
+use Rattle.std.proofs.Common.{◌≡◌, ℕ, ◌+◌, ◌<◌, ◌&&◌, Bool, true, false, cond, List, Option, Some, None, refl, sym, ap, subst, ◌∙◌, arith}
 use Rattle.elf_mips.specs.declared.image.Image.{Image}
 use Rattle.elf_mips.specs.Segments.{code_at, is_writable_word}
-use Rattle.loop_nest.specs.Nests.{IsNest, TellsKind, TellsFault as TellsLoops}
-use Rattle.loop_nest.specs.declared.nest.Loop.{Loop}
-use Rattle.loop_nest.proofs.HeaderRank.{ranks-reducible}
-use Rattle.loop_nest.proofs.NestLaws.{nest-bounded}
+use Rattle.loop_nest.specs.Programs.{TellsKindIn, TellsFault as TellsLoops}
+use Rattle.loop_nest.specs.declared.nest.Nests.{Nests}
 use Rattle.mips_decode.specs.declared.instr.Instr.{Instr}
+use Rattle.mips_decode.specs.Records.{needs_target}
 use Rattle.mips_decode.specs.Step.{Fetched, Found, Missing, fetched}
 use Rattle.net_model.specs.declared.unit.CodeKind.{CodeKind}
 use Rattle.net_model.specs.declared.unit.CodeKind.TheVariants as code
 use Rattle.net_model.specs.declared.unit.Content.TheVariants.{Unit as Stands, Fault}
-use Rattle.net_model.specs.Faults.{HasNoFault, IsFirstFault, Offends, rank as code_rank}
-use Rattle.net_model.specs.Units.{Word, Holds, Lacks, content_of, is_transfer, known, with_slot, word_at}
-use Rattle.wcet_engine.specs.Code.{IsCodeRefusal, TellsCode}
+use Rattle.net_model.specs.Faults.{HasNoFault, IsFirstFault, Offends, faulty, recursive, rank as code_rank}
+use Rattle.net_model.specs.Targets.{is_none, linked_content, links_elsewhere, targets_at}
+use Rattle.net_model.specs.Units.{Word, Holds, Lacks, content_at, content_of, is_transfer, known, with_slot, word_at}
+use Rattle.wcet_engine.specs.Code.{AreLoops, IsCodeRefusal, TellsCode}
 use Rattle.wcet_engine.specs.Faults.{IsCodeFault, refused_by}
 use Rattle.unit_graph.specs.Graphs.{TellsFault as TellsWords}
 use Rattle.unit_graph.specs.declared.fault.CodeFault.{CodeFault}
 use Rattle.unit_graph.specs.declared.fault.CodeFault.TheVariants.{Bad, Memory}
 use Rattle.wcet_engine.specs.Refusals.{kind_of_code}
+use Rattle.wcet_engine.proofs.ProgramLoops.{none-irreducible, none-unbounded}
 
--- An address never holds a fault of the loops.
+-- Neither an address nor a call is a fault of the loops.
 abbrev IsOfWord : CodeKind → Type 0
 IsOfWord code.Irreducible = ⊥
 IsOfWord code.NoBound = ⊥
@@ -57,9 +58,21 @@ content-kind image address place kind (Lacks lack) there e =
     let same : lack ≡ kind = cc in subst IsOfWord same (lacks-kind image address lack there)
 content-kind image address place kind (Holds instr) there e = instr-by (is_transfer instr) image instr address place kind e
 
+linked-kind : (image : Image) (address place : ℕ) (kind : CodeKind) (content : Content) → content_at image address ≡ content →
+    linked_content image address content ≡ Fault kind place → IsOfWord kind
+linked-kind image address place kind (Fault other spot) there e =
+    let same : other ≡ kind = cc in subst IsOfWord same (content-kind image address spot other (word_at image address) refl there)
+linked-kind image address place kind (Stands unit) there e =
+    by_tests (needs_target unit.instr && is_none (targets_at image address)) (links_elsewhere unit.instr) e where
+  by_tests : (b c : Bool) →
+      cond b (Fault code.UnknownTarget address) (cond c (Fault code.LinkRegister address) (Stands unit)) ≡ Fault kind place → IsOfWord kind
+  by_tests true c e = let same : code.UnknownTarget ≡ kind = cc in subst IsOfWord same tt
+  by_tests false true e = let same : code.LinkRegister ≡ kind = cc in subst IsOfWord same tt
+  by_tests false false e = absurd cc
+
 offence-kind : (image : Image) (entry : ℕ) (kind : CodeKind) (place : ℕ) → Offends image entry kind place → IsOfWord kind
-offence-kind image entry kind place offends =
-    content-kind image offends.address place kind (word_at image offends.address) refl offends.faulty
+offence-kind image entry _ _ (faulty kind place address reached e) = linked-kind image address place kind (content_at image address) refl e
+offence-kind image entry _ _ (recursive function is) = tt
 
 word-rank : (kind : CodeKind) → IsOfWord kind → code_rank kind < 6
 word-rank code.WritableCode is = omega arith
@@ -71,7 +84,7 @@ word-rank code.Recursion is = omega arith
 word-rank code.Irreducible is = absurd is
 word-rank code.NoBound is = absurd is
 
--- Faults that addresses hold are faults of the code, and those of lower ranks are such.
+-- Faults of addresses and calls are faults of the code, and those of lower ranks are such.
 offence-fault : (image : Image) (kind : CodeKind) (place : ℕ) → Offends image image.entry kind place → IsCodeFault kind image place
 offence-fault image code.WritableCode place offends = offends
 offence-fault image code.UnknownWord place offends = offends
@@ -92,7 +105,7 @@ fault-offence image code.Recursion place low fault = fault
 fault-offence image code.Irreducible place low fault = absurd (omega (arith, low))
 fault-offence image code.NoBound place low fault = absurd (omega (arith, low))
 
--- The first fault that an address holds.
+-- The first fault of an address or a call.
 pub word-refusal : (image : Image) (kind : CodeKind) (place : ℕ) → IsFirstFault image image.entry kind place →
     IsCodeRefusal image (kind_of_code kind) place
 word-refusal image kind place first =
@@ -105,8 +118,8 @@ word-refusal image kind place first =
       least = λ lesser less fault. first.least lesser less (fault-offence image kind lesser low fault);
     }
 
--- The first fault of the loops, where no address holds one.
-pub loop-refusal : (image : Image) (kind : CodeKind) (place : ℕ) → HasNoFault image image.entry → TellsKind image image.entry kind place →
+-- The first fault of the loops, where there is none of these.
+pub loop-refusal : (image : Image) (kind : CodeKind) (place : ℕ) → HasNoFault image image.entry → TellsKindIn image image.entry kind place →
     IsCodeRefusal image (kind_of_code kind) place
 loop-refusal image code.Irreducible place faultless told = record {
   fault = code.Irreducible;
@@ -139,16 +152,16 @@ loop-refusal image code.LinkRegister place faultless told = absurd told
 loop-refusal image code.Recursion place faultless told = absurd told
 
 -- Code without a fault whose loops are known has none of its kinds.
-pub code-faultless : (image : Image) (loops : List Loop) → HasNoFault image image.entry → IsNest image image.entry loops →
+pub code-faultless : (image : Image) (nests : Nests) → HasNoFault image image.entry → AreLoops image nests →
     (kind : CodeKind) (place : ℕ) → IsCodeFault kind image place → ⊥
-code-faultless image loops faultless nest code.Irreducible place fault = ranks-reducible image image.entry nest.ranks place fault
-code-faultless image loops faultless nest code.NoBound place fault = nest-bounded image image.entry loops nest place fault
-code-faultless image loops faultless nest code.WritableCode place fault = faultless code.WritableCode place fault
-code-faultless image loops faultless nest code.UnknownWord place fault = faultless code.UnknownWord place fault
-code-faultless image loops faultless nest code.TransferInSlot place fault = faultless code.TransferInSlot place fault
-code-faultless image loops faultless nest code.UnknownTarget place fault = faultless code.UnknownTarget place fault
-code-faultless image loops faultless nest code.LinkRegister place fault = faultless code.LinkRegister place fault
-code-faultless image loops faultless nest code.Recursion place fault = faultless code.Recursion place fault
+code-faultless image nests faultless are code.Irreducible place fault = none-irreducible image nests are place fault
+code-faultless image nests faultless are code.NoBound place fault = none-unbounded image nests are place fault
+code-faultless image nests faultless are code.WritableCode place fault = faultless code.WritableCode place fault
+code-faultless image nests faultless are code.UnknownWord place fault = faultless code.UnknownWord place fault
+code-faultless image nests faultless are code.TransferInSlot place fault = faultless code.TransferInSlot place fault
+code-faultless image nests faultless are code.UnknownTarget place fault = faultless code.UnknownTarget place fault
+code-faultless image nests faultless are code.LinkRegister place fault = faultless code.LinkRegister place fault
+code-faultless image nests faultless are code.Recursion place fault = faultless code.Recursion place fault
 
 -- What the errors of both stages tell.
 pub word-tells : (image : Image) (fault : CodeFault) → TellsWords image image.entry fault → TellsCode image (refused_by fault)

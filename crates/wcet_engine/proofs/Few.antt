@@ -35,6 +35,8 @@ use Rattle.net_model.proofs.Contents.{IsFetched-unit}
 use Rattle.unit_graph.specs.Contents.{AreReached}
 use Rattle.unit_graph.specs.Ways.{IsPlaced}
 use Rattle.unit_graph.specs.declared.reached.Reached.{Reached}
+use Rattle.wcet_engine.specs.Unbuilt.{IsUnbuiltAt}
+use Rattle.wcet_engine.proofs.Following.{code-reached}
 use Rattle.wcet_engine.proofs.LeastLemmas.{Contains-one}
 use Rattle.wcet_engine.proofs.RunPaths.{stands-at}
 use Rattle.wcet_engine.proofs.UnitLemmas.{sound_at}
@@ -176,11 +178,12 @@ few-reached image entry reached are low =
     omega (arith, few, length-map reached (λ (r : Reached). r.address))
 
 -- So are the loops, by their headers.
-pub few-loops : (image : Image) (entry : ℕ) (loops : List Loop) → IsNest image entry loops → entry < 2 ^ 32 → length loops < 2 ^ 31
-few-loops image entry loops nest low =
+pub few-loops : (image : Image) (entry : ℕ) (loops : List Loop) → ((place : ℕ) → IsUnbuiltAt image entry place → ⊥) → IsNest image entry loops → entry < 2 ^ 32 → length loops < 2 ^ 31
+few-loops image entry loops followed nest low =
     let few = few-addresses image entry (map (λ (l : Loop). l.header) loops) (keys-rise (λ (l : Loop). l.header) loops nest.rising)
     (All-map (IsReached image entry) (λ (l : Loop). l.header) loops
-    (λ k d inside. header-reached image entry (get_or loops k d).header (nest.each k d inside).headed)) low in
+    (λ k d inside. code-reached image entry (get_or loops k d).header followed
+    (header-reached image entry (get_or loops k d).header (nest.each k d inside).headed))) low in
     omega (arith, few, length-map loops (λ (l : Loop). l.header))
 
 -- A unit stands in a word of some segment.

@@ -10,12 +10,15 @@ use Rattle.net_model.specs.declared.unit.Content.TheVariants.{Unit as Stands, Fa
 use Rattle.net_model.specs.Onward.{returns}
 use Rattle.net_model.specs.Reached.{IsReached}
 use Rattle.net_model.specs.Units.{content_at}
+use Rattle.net_model.proofs.Followed.{unit-content}
 use Rattle.unit_graph.specs.Contents.{AreReached, Rise}
 use Rattle.unit_graph.specs.declared.reached.Reached.{Reached}
 use Rattle.wcet_engine.specs.Arcs.{leaves}
 use Rattle.wcet_engine.specs.Clash.{IsLeast}
 use Rattle.wcet_engine.specs.Faults.{HasNoReturn}
-use Rattle.wcet_engine.specs.Unbuilt.{IsLeft, IsUnbuiltAt, content_left}
+use Rattle.wcet_engine.specs.Table.{IsAt}
+use Rattle.wcet_engine.specs.Unbuilt.{AreFollowed, IsLeft, IsUnbuiltAt, content_left}
+use Rattle.wcet_engine.proofs.Following.{code-reached}
 use Rattle.wcet_engine.proofs.Positions.{greater, has_position}
 
 -- What a search finds: the first item of which the test is true.
@@ -69,7 +72,7 @@ stands-there image entry reached position one are there =
     subst (λ (r : Reached). r.content ≡ content_at image r.address) (get_or_from_slice_get reached position one one there)
     (are.contents position one (slice_get_within reached position one there))
 
-reached-there : (image : Image) (entry : ℕ) (reached : List Reached) (position : ℕ) (one : Reached) → AreReached image entry reached →
+pub reached-there : (image : Image) (entry : ℕ) (reached : List Reached) (position : ℕ) (one : Reached) → AreReached image entry reached →
     slice_get reached position ≡ Some one → IsReached image entry one.address
 reached-there image entry reached position one are there =
     subst (λ (r : Reached). IsReached image entry r.address) (get_or_from_slice_get reached position one one there)
@@ -145,11 +148,13 @@ none-left image entry reached are none place unbuilt =
 returns-content : (content : Content) (unit : CodeUnit) → content ≡ Stands unit → leaves content ≡ false → returns unit ≡ false
 returns-content content unit same fails = ap leaves (sym same) ∙ fails
 
-pub no-returns : (image : Image) (reached : List Reached) → AreReached image image.entry reached → All (λ (r : Reached). leaves r.content ≡ false) reached →
+pub no-returns : (image : Image) (reached : List Reached) → AreFollowed image image.entry reached → All (λ (r : Reached). leaves r.content ≡ false) reached →
     HasNoReturn image
-no-returns image reached are fails address unit here stands =
-    let has = has_position reached address (are.whole address here) in
-    let content = stands-there image image.entry reached has.position has.is.one are has.is.there ∙ ap (content_at image) has.is.same ∙ stands in
+no-returns image reached of fails address unit here stands =
+    let are = of.contents in
+    let has = has_position reached address (are.whole address (code-reached image image.entry address of.followed here)) in
+    let content = stands-there image image.entry reached has.position has.is.one are has.is.there ∙ ap (content_at image) has.is.same
+    ∙ unit-content image address unit stands in
     returns-content has.is.one.content unit content
     (subst (λ (r : Reached). leaves r.content ≡ false) (get_or_from_slice_get reached has.position has.is.one has.is.one has.is.there)
     (fails has.position has.is.one (slice_get_within reached has.position has.is.one has.is.there)))

@@ -23,3 +23,5 @@ pub mod NetLemmas
 pub mod Few
 pub mod Certified
 pub mod ArcCount
+pub mod Following
+pub mod ProgramLoops

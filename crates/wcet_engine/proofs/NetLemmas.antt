@@ -9,7 +9,10 @@ use Rattle.flow_net.specs.declared.net.NetArc.{NetArc}
 use Rattle.flow_net.specs.declared.net.Place.{Place}
 use Rattle.net_model.specs.Net.{IsArcBefore, IsNet, IsPlaceAt, IsScopeOf, LeadsOn, LeadsTo}
 use Rattle.net_model.specs.Onward.{onward, returns}
-use Rattle.net_model.specs.Reached.{IsReached}
+use Rattle.net_model.proofs.Followed.{return-unit, unit-content}
+use Rattle.net_model.proofs.Plain.{plain-goes, plain-reached}
+use Rattle.net_model.specs.Functions.{GoesOn, IsReached}
+use Rattle.net_model.specs.Targets.{unit_at}
 use Rattle.net_model.specs.Units.{content_at}
 use Rattle.net_model.specs.declared.unit.CodeUnit.{CodeUnit}
 use Rattle.net_model.specs.declared.unit.Content.{Content}
@@ -22,6 +25,9 @@ use Rattle.wcet_engine.specs.declared.table.Steps.{Steps}
 use Rattle.wcet_engine.specs.Around.{AreInstances, AreScopes}
 use Rattle.wcet_engine.specs.Arcs.{AreArcs, ArePlaces, IsPlaceFor, IsWay, IsWayArc, arc_to, leaves}
 use Rattle.wcet_engine.specs.Table.{Follows, IsTable}
+use Rattle.wcet_engine.specs.Unbuilt.{AreFollowed}
+use Rattle.wcet_engine.proofs.Following.{code-reached, followed-units, going-stands, onward-of}
+use Rattle.wcet_engine.proofs.Lefts.{reached-there}
 use Rattle.wcet_engine.proofs.NetLoops.{IsLaid, loops-laid, scope-laid}
 use Rattle.wcet_engine.proofs.Positions.{HasPosition, greater, has_position}
 
@@ -83,14 +89,17 @@ leads_on : (image : Image) (entry : ℕ) (net : Net) (reached : List Reached) (s
 leads_on image entry net reached scopes table are is e position to (inl goes) =
     let follows : Follows reached position goes.later = is.sound position goes.later goes.step in
     let at = place_for net reached scopes position follows.one e follows.there in
+    let content : content_at image follows.one.address ≡ Stands follows.unit =
+    sym (stands_there image entry reached position follows.one are follows.there) ∙ follows.stands in
+    let on = plain-goes image follows.one.address follows.other.address follows.unit content follows.onward in
     record {
       place = at.place;
       there = at.there;
       unit = follows.unit;
-      stands = ap (content_at image) at.same ∙ sym (stands_there image entry reached position follows.one are follows.there) ∙ follows.stands;
+      stands = ap (unit_at image) at.same ∙ going-stands image follows.one.address follows.other.address follows.unit content on;
       leads = inl (
         follows.other.address,
-        subst (λ (a : ℕ). Contains (onward follows.unit a) follows.other.address) (sym at.same) follows.onward,
+        subst (λ (a : ℕ). GoesOn image a follows.other.address) (sym at.same) on,
         subst (λ (number : ℕ). IsPlaceAt net number follows.other.address) (sym goes.number)
             (place_at net reached scopes goes.later follows.other e follows.next),
       );
@@ -102,7 +111,9 @@ leads_on image entry net reached scopes table are is e position to (inr back) =
       place = at.place;
       there = at.there;
       unit = unit.0;
-      stands = ap (content_at image) at.same ∙ sym (stands_there image entry reached position back.one are back.there) ∙ unit.1;
+      stands = ap (unit_at image) at.same
+          ∙ return-unit image back.one.address unit.0
+          (sym (stands_there image entry reached position back.one are back.there) ∙ unit.1) unit.2;
       leads = inr (back.number, unit.2);
     }
 
@@ -113,10 +124,10 @@ record ComesFrom (reached : List Reached) (table : List Steps) (from to : ℕ) :
   below : position < length reached
   way : IsWay reached table position to
 
-leads_to : (net : Net) (reached : List Reached) (scopes : List ℕ) (table : List Steps) (position to : ℕ) (one : Reached) (unit : CodeUnit) →
-    IsTable reached table → ArePlaces reached scopes (length reached) net.places → slice_get reached position ≡ Some one →
-    one.content ≡ Stands unit → LeadsTo net unit one.address to → IsWay reached table position to
-leads_to net reached scopes table position to one unit is e there stands (inl leads) =
+leads_to : (image : Image) (net : Net) (reached : List Reached) (scopes : List ℕ) (table : List Steps) (position to : ℕ) (one : Reached) (unit : CodeUnit) →
+    ((later : ℕ) → GoesOn image one.address later → Contains (onward unit one.address) later) → IsTable reached table → ArePlaces reached scopes (length reached) net.places → slice_get reached position ≡ Some one →
+    one.content ≡ Stands unit → LeadsTo image net unit one.address to → IsWay reached table position to
+leads_to image net reached scopes table position to one unit plain is e there stands (inl leads) =
     let other : IsPlaceOf reached to leads.2.place = of_place net reached scopes to leads.2.place e leads.2.there in
     let same : leads.0 ≡ other.one.address = sym leads.2.same ∙ sym other.same in
     inl (record {
@@ -129,27 +140,32 @@ leads_to net reached scopes table position to one unit is e there stands (inl le
         stands = stands;
         other = other.one;
         next = other.there;
-        onward = subst (λ (later : ℕ). Contains (onward unit one.address) later) same leads.1;
+        onward = subst (λ (later : ℕ). Contains (onward unit one.address) later) same (plain leads.0 leads.1);
       });
     })
-leads_to net reached scopes table position to one unit is e there stands (inr back) =
+leads_to image net reached scopes table position to one unit plain is e there stands (inr back) =
     inr (record { one = one; there = there; leaving = ap leaves stands ∙ back.1; number = back.0 })
 
-comes_from : (image : Image) (entry : ℕ) (net : Net) (reached : List Reached) (scopes : List ℕ) (table : List Steps) → AreReached image entry reached →
+comes_from : (image : Image) (entry : ℕ) (net : Net) (reached : List Reached) (scopes : List ℕ) (table : List Steps) → AreFollowed image entry reached →
     IsTable reached table → ArePlaces reached scopes (length reached) net.places → (from to : ℕ) → LeadsOn image net from to →
     ComesFrom reached table from to
-comes_from image entry net reached scopes table are is e from to leads =
+comes_from image entry net reached scopes table of is e from to leads =
+    let are = of.contents in
     let source : IsPlaceOf reached from leads.place = of_place net reached scopes from leads.place e leads.there in
     let at : leads.place.address ≡ source.one.address = sym source.same in
+    let there : content_at image source.one.address ≡ Stands leads.unit =
+    subst (λ (a : ℕ). content_at image a ≡ Stands leads.unit) at (unit-content image leads.place.address leads.unit leads.stands) in
     let stands : source.one.content ≡ Stands leads.unit =
-    stands_there image entry reached source.position source.one are source.there
-    ∙ subst (λ (a : ℕ). content_at image a ≡ Stands leads.unit) at leads.stands in
+    stands_there image entry reached source.position source.one are source.there ∙ there in
+    let here = reached-there image entry reached source.position source.one are source.there in
+    let followed = followed-units image entry of.followed source.one.address leads.unit here there in
     record {
       position = source.position;
       is = source.is;
       below = slice_get_within reached source.position source.one source.there;
-      way = leads_to net reached scopes table source.position to source.one leads.unit is e source.there stands
-          (subst (λ (a : ℕ). LeadsTo net leads.unit a to) at leads.leads);
+      way = leads_to image net reached scopes table source.position to source.one leads.unit
+          (λ later on. onward-of image source.one.address later leads.unit there followed on) is e source.there stands
+          (subst (λ (a : ℕ). LeadsTo image net leads.unit a to) at leads.leads);
     }
 
 -- The arcs behind the first one.
@@ -211,9 +227,10 @@ scope-by image entry net reached scopes table loops are nest listed k d inside =
 
 -- The net of a function.
 pub net-is : (image : Image) (entry : ℕ) (net : Net) (reached : List Reached) (scopes : List ℕ) (table : List Steps) (loops : List Loop) →
-    AreReached image entry reached → IsNest image entry loops → IsTable reached table → IsListed entry net reached scopes table loops →
+    AreFollowed image entry reached → IsNest image entry loops → IsTable reached table → IsListed entry net reached scopes table loops →
     IsNet image entry net
-net-is image entry net reached scopes table loops are nest is listed =
+net-is image entry net reached scopes table loops of nest is listed =
+    let are = of.contents in
     let e = listed.places in
     let arcs = listed.arcs in
     record {
@@ -226,10 +243,9 @@ net-is image entry net reached scopes table loops are nest is listed =
       reached = λ k d inside.
           let at = place-facts net reached scopes e k d inside in
           subst (IsReached image entry) (sym at.same)
-          (subst (λ (r : Reached). IsReached image entry r.address) (get_or_from_slice_get reached k at.one at.one at.there)
-          (are.sound k at.one (slice_get_within reached k at.one at.there)));
+          (plain-reached image entry at.one.address (reached-there image entry reached k at.one are at.there));
       whole = λ address r.
-          let has : HasPosition reached address = has_position reached address (are.whole address r) in (
+          let has : HasPosition reached address = has_position reached address (are.whole address (code-reached image entry address of.followed r)) in (
             has.position + 1,
             subst (λ (a : ℕ). IsPlaceAt net (has.position + 1) a) has.is.same
                 (place_at net reached scopes has.position has.is.one e has.is.there),
@@ -249,7 +265,7 @@ net-is image entry net reached scopes table loops are nest is listed =
           subst (λ (from : ℕ). LeadsOn image net from arc.to) (sym way.from)
           (leads_on image entry net reached scopes table are is e way.position arc.to way.way);
       arcs = λ from to leads.
-          let comes : ComesFrom reached table from to = comes_from image entry net reached scopes table are is e from to leads in
+          let comes : ComesFrom reached table from to = comes_from image entry net reached scopes table of is e from to leads in
           let among = arcs.ways.whole comes.position to comes.below comes.way in (
             suc (suc among.0),
             omega arith,

@@ -25,7 +25,8 @@ use Rattle.net_model.specs.declared.unit.Content.TheVariants.{Unit as Stands, Fa
 use Rattle.net_model.specs.Units.{content_at}
 use Rattle.net_model.specs.Onward.{calls, is_indirect, onward, returns}
 use Rattle.net_model.specs.Reached.{IsReached, next}
-use Rattle.net_model.proofs.Plain.{plain-offends}
+use Rattle.net_model.proofs.Followed.{return-unit}
+use Rattle.net_model.proofs.Plain.{plain-goes, plain-offends, plain-reached}
 use Rattle.net_model.specs.Faults.{HasNoFault}
 use Rattle.net_model.specs.Net.{IsNet, IsPlaceAt}
 use Rattle.net_model.proofs.Contents.{IsFetched-unit}
@@ -38,6 +39,7 @@ use Rattle.wcet_engine.specs.Records.{AreVisited, visits}
 use Rattle.wcet_engine.specs.Unbuilt.{IsLeft}
 use Rattle.loop_nest.proofs.NetItems.{item-positive}
 use Rattle.loop_nest.proofs.NetPaths.{ArcOf, leads-on}
+use Rattle.wcet_engine.proofs.Following.{going-stands, neither}
 use Rattle.wcet_engine.proofs.UnitCosts.{step_cost-unit, transfer-alone}
 
 -- What the law asks of an image: its segments end low, no reached address has a fault, and each unit that is reached is followed.
@@ -74,12 +76,6 @@ no_return : (image : Image) (entry : ℕ) → All EndsLow image.segments → Has
 no_return image entry low faultless reached =
     let unit = stands-at image entry return_address faultless reached (content_at image return_address) refl in
     no_unit_there image unit.0 low unit.1
-
--- A followed unit neither calls nor jumps to recorded targets.
-neither : (a b : Bool) → ((a || b) ≡ true → ⊥) → (a ≡ false) × (b ≡ false)
-neither true b left = absurd (left refl)
-neither false true left = absurd (left refl)
-neither false false left = (refl, refl)
 
 -- The price of the place of a unit.
 price-unit : (profile : Profile) (image : Image) (net : Net) (number address : ℕ) (unit : CodeUnit) → IsPlaceAt net number address →
@@ -151,8 +147,9 @@ onward-path profile image entry net is unit s t later step number rest addresses
     let reached' : IsReached image entry t.pc = next s.pc t.pc unit reached stands here in
     let elsewhere : t.pc ≡ return_address → ⊥ =
     λ same. no_return image entry is.low is.faultless (subst (IsReached image entry) same reached') in
-    let to = is.is_net.whole t.pc reached' in
-    let arc = leads-on image entry net number to.0 s.pc unit is.is_net at stands (inl (t.pc, here, to.1)) in
+    let to = is.is_net.whole t.pc (plain-reached image entry t.pc reached') in
+    let on = plain-goes image s.pc t.pc unit stands here in
+    let arc = leads-on image entry net number to.0 s.pc unit is.is_net at (going-stands image s.pc t.pc unit stands on) (inl (t.pc, on, to.1)) in
     longer profile image net number to.0 (step_cost (costs_of profile) step) rest s.pc addresses
     (item-positive net.places number at.place at.there) arc at cycles
     (more to.0 reached' goes.zero to.1 (goes-on s t later elsewhere returned))
@@ -178,7 +175,7 @@ return-path : (profile : Profile) (image : Image) (entry : ℕ) (net : Net) → 
     (s.pc ∷ visits (code_at image.segments) t later)
 return-path profile image entry net is unit s t later step number at stands goes cycles link returning back returned =
     let code = code_at image.segments in
-    let arc = leads-on image entry net number 0 s.pc unit is.is_net at stands (inr (refl, returning)) in
+    let arc = leads-on image entry net number 0 s.pc unit is.is_net at (return-unit image s.pc unit stands returning) (inr (refl, returning)) in
     let ended : later ≡ [] = comes-back image unit s t later step goes link back goes.ends in
     let place : t.pc ≡ return_address =
     (subst (λ (states : List State). HasReturned s (t ∷ states)) ended returned).place in

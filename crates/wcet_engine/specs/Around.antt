@@ -4,18 +4,18 @@ use Rattle.elf_mips.specs.declared.image.Image.{Image}
 use Rattle.flow_net.specs.declared.net.LoopInst.{LoopInst}
 use Rattle.loop_nest.specs.declared.nest.Loop.{Loop}
 use Rattle.loop_nest.specs.Nests.{IsNest}
-use Rattle.unit_graph.specs.Contents.{AreReached}
 use Rattle.unit_graph.specs.declared.reached.Reached.{Reached}
 use Rattle.wcet_engine.specs.Table.{IsAt}
+use Rattle.wcet_engine.specs.Unbuilt.{AreFollowed}
 
 -- The bodies of the loops rise.
 abbrev pub AreRising : List Loop → Type 0
 AreRising loops = All (λ (l : Loop). AllPairs (λ (a b : ℕ). a < b) l.body) loops
 
--- What a function of an image reaches, and its loops.
+-- What a function of an image reaches, where each unit is followed, and its loops.
 abbrev pub AreOfFunction : List Reached → List Loop → Type 0
 AreOfFunction reached loops =
-    (image : Image) × (entry : ℕ) × AreReached image entry reached × IsNest image entry loops
+    (image : Image) × (entry : ℕ) × AreFollowed image entry reached × IsNest image entry loops
 
 -- The loop of a position holds an address that isn't its header.
 pub record IsRound (loops : List Loop) (position address : ℕ) : Type 0 where

@@ -7,10 +7,13 @@ use Rattle.ipet_program.specs.Certificates.{IsValid}
 use Rattle.ipet_program.specs.Programs.{IsCheckable, IsProgramOf, place_price}
 use Rattle.ipet_program.specs.declared.certificate.Certificate.{Certificate}
 use Rattle.ipet_program.specs.declared.program.Program.{Program}
+use Rattle.loop_nest.specs.Programs.{AreNests}
+use Rattle.loop_nest.specs.declared.nest.Nests.{Nests}
 use Rattle.net_model.specs.declared.unit.CodeKind.{CodeKind}
 use Rattle.net_model.specs.Faults.{rank as code_rank}
 use Rattle.net_model.specs.Net.{IsNet}
-use Rattle.unit_graph.specs.Contents.{AreReached}
+use Rattle.unit_graph.specs.Graphs.{AreGraphs}
+use Rattle.unit_graph.specs.declared.graph.Graphs.{Graphs}
 use Rattle.wcet_engine.specs.declared.analysis.Refused.{Refused}
 use Rattle.wcet_engine.specs.declared.analysis.Refused.TheVariants.{Fault, Memory}
 use Rattle.wcet_engine.specs.declared.code.Code.{Code}
@@ -20,13 +23,18 @@ use Rattle.wcet_engine.specs.Clash.{IsLeast}
 use Rattle.wcet_engine.specs.Faults.{HasNoReturn, IsCodeFault, IsLargeNet, IsTooLarge}
 use Rattle.wcet_engine.specs.Refusals.{kind_of_code}
 use Rattle.wcet_engine.specs.Table.{IsTable}
-use Rattle.wcet_engine.specs.Unbuilt.{IsUnbuiltAt}
+use Rattle.wcet_engine.specs.Unbuilt.{AreFollowed, IsUnbuiltAt}
 
 -- The code of an image each of whose units is followed: what its entry reaches, and how the units follow one another.
 pub record IsFollowedCode (image : Image) (code : Code) : Type 0 where
-  pub contents : AreReached image image.entry code.reached
+  pub units : AreFollowed image image.entry code.reached
   pub steps : IsTable code.reached code.table.items
-  pub followed : (place : ℕ) → IsUnbuiltAt image image.entry place → ⊥
+
+-- The loops of the program's functions, those of the entry first.
+pub record AreLoops (image : Image) (nests : Nests) : Type 0 where
+  pub graphs : Graphs
+  pub drawn : AreGraphs image image.entry graphs
+  pub loops : AreNests image graphs nests
 
 -- The least place of a unit that isn't followed; want of memory says nothing.
 abbrev pub TellsUnbuilt : Image → Refused → Type 0

@@ -22,15 +22,15 @@ use Rattle.ipet_program.specs.Counts.{IsFeasible, value_of}
 use Rattle.ipet_program.specs.Programs.{IsProgramOf, crude_limit, crude_of, place_price}
 use Rattle.ipet_program.specs.Scopes.{TellsHeld}
 use Rattle.ipet_program.specs.declared.program.Program.{Program}
+use Rattle.loop_nest.specs.Programs.{IsIrreducibleIn, IsUnboundedIn}
 use Rattle.net_model.specs.declared.unit.CodeKind.{CodeKind}
 use Rattle.net_model.specs.declared.unit.CodeKind.TheVariants as code
 use Rattle.net_model.specs.declared.unit.CodeUnit.{CodeUnit}
 use Rattle.net_model.specs.declared.unit.Content.TheVariants.{Unit as Stands}
-use Rattle.net_model.specs.Units.{content_at}
+use Rattle.net_model.specs.Functions.{IsReached}
 use Rattle.net_model.specs.Onward.{returns}
-use Rattle.net_model.specs.Reached.{IsReached}
+use Rattle.net_model.specs.Targets.{unit_at}
 use Rattle.net_model.specs.Faults.{Offends as IsCodeOffender}
-use Rattle.net_model.specs.Loops.{IsIrreducible, IsUnbounded}
 use Rattle.net_model.specs.Net.{IsNet}
 use Rattle.wcet_engine.specs.Sentence.{BoundsPlain, IsPlain}
 use Rattle.wcet_engine.specs.Clash.{IsClash}
@@ -44,17 +44,17 @@ file_limit = 16777216
 abbrev pub IsPlainClash : Image → ℕ → Type 0
 IsPlainClash image place = (profile : Profile) → IsPlain profile → IsClash image profile place
 
--- The program's code has a fault of the kind at the place: a reached address holds it, a unit lies on a cycle
--- without back arcs, or a loop has no bound.
+-- The program's code has a fault of the kind at the place: a reached address holds it, a function calls itself, a unit
+-- lies on a cycle without back arcs, or a loop has no bound.
 abbrev pub IsCodeFault : CodeKind → Image → ℕ → Type 0
-IsCodeFault code.Irreducible image place = IsIrreducible image image.entry place
-IsCodeFault code.NoBound image place = IsUnbounded image image.entry place
+IsCodeFault code.Irreducible image place = IsIrreducibleIn image image.entry place
+IsCodeFault code.NoBound image place = IsUnboundedIn image image.entry place
 IsCodeFault kind image place = IsCodeOffender image image.entry kind place
 
 -- No unit that the entry function reaches returns.
 abbrev pub HasNoReturn : Image → Type 0
 HasNoReturn image =
-    (address : ℕ) (unit : CodeUnit) → IsReached image image.entry address → content_at image address ≡ Stands unit →
+    (address : ℕ) (unit : CodeUnit) → IsReached image image.entry address → unit_at image address ≡ Stands unit →
     returns unit ≡ false
 
 -- The crude bound of a net is above its limit: the price of each place, times the bounds of the loops that hold it.

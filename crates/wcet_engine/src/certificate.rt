@@ -6,7 +6,7 @@ ghost use Rattle.ipet_program.specs.Certificates.{IsValid};
 ghost use Rattle.ipet_program.specs.Programs.{FitsImage, IsCheckable, IsProgramOf, crude_limit};
 ghost use Rattle.ipet_program.specs.declared.program.Program.{Program};
 ghost use Rattle.nest_solver.specs.Answers.{ShowsGreatest};
-ghost use Rattle.loop_nest.specs.Nests.{AreNests, IsNest};
+ghost use Rattle.loop_nest.specs.Nests.{IsNest};
 ghost use Rattle.net_model.specs.Faults.{HasNoFault};
 ghost use Rattle.net_model.specs.Net.{Returns};
 ghost use Rattle.elf_mips.specs.declared.image.Image.{Image};
@@ -25,15 +25,14 @@ use nest_solver::{nest_bound, nest_counts};
 use std::alloc::{AllocError, Global};
 use wcet_io::List;
 
-/// The loops of a program's one function.
+ghost use Rattle.wcet_engine.specs.Code.{AreLoops, Certifies, IsCertified, IsFollowedCode, TellsLargeNet, TellsTooLarge};
+
+/// The loops of a program's first function, which is its entry.
 fn entry_loops(nests: &Nests) -> &[Loop]
-    requires { (image : Image) × (entry : ℕ) × AreNests image entry nests.now }
-    ensures { (image : Image) (entry : ℕ) → AreNests image entry nests.now → IsNest image entry result.now }
+    requires { (image : Image) × AreLoops image nests.now }
+    ensures { (image : Image) → AreLoops image nests.now → IsNest image image.entry result.now }
 {
-    let [loops] = nests.nests.as_slice() else {
-        unreachable!();
-    };
-    loops.as_slice()
+    nests.nests.as_slice()[0].as_slice()
 }
 
 /// The bound that a leaf shows, by the multiplier of the program's first row.
@@ -110,7 +109,7 @@ pub fn certify(
     nests: &Nests,
 ) -> Result<Certificate, Refused>
     requires code { IsFollowedCode image.now code.now }
-    requires loops { AreNests image.now image.now.entry nests.now }
+    requires loops { AreLoops image.now nests.now }
     requires faultless { HasNoFault image.now image.now.entry }
     requires returns { Returns image.now image.now.entry }
     ensures certified { IfOk result (IsCertified image.now profile.now) }

@@ -4,7 +4,6 @@ ghost use Rattle.std.specs.Prelude.{◌≡◌, find, IfOk, IfErr, OnOk};
 ghost use Rattle.std.specs.Option.{option_map};
 ghost use Rattle.net_model.specs.Faults.{HasNoFault};
 ghost use Rattle.net_model.specs.Net.{Returns};
-ghost use Rattle.unit_graph.specs.Contents.{AreReached};
 
 use crate::analysis::Refused;
 use crate::net::leaves;
@@ -25,9 +24,8 @@ pub struct Code {
     pub table: Vec<Steps>,
 }
 
-ghost use Rattle.loop_nest.specs.Nests.{AreNests};
-ghost use Rattle.wcet_engine.specs.Unbuilt.{content_left};
-ghost use Rattle.wcet_engine.specs.Code.{IsFollowedCode, TellsCode, TellsNoReturn, TellsUnbuilt};
+ghost use Rattle.wcet_engine.specs.Unbuilt.{AreFollowed, content_left};
+ghost use Rattle.wcet_engine.specs.Code.{AreLoops, IsFollowedCode, TellsCode, TellsNoReturn, TellsUnbuilt};
 
 /// Whether a unit isn't followed: it may call, or jumps to recorded targets.
 fn is_left(content: &Content) -> bool
@@ -66,11 +64,11 @@ pub fn followed_code(alloc: Global, image: &Image) -> Result<Code, Refused>
     Ok(Code { reached, table })
 }
 
-/// The loops of the code that an image's entry reaches.
+/// The loops of the functions of an image's program, those of its entry first.
 ///
 /// `Fault` is the first fault of this code, or else of its loops.
 pub fn loops_of(alloc: Global, image: &Image) -> Result<Nests, Refused>
-    ensures loops { IfOk result (AreNests image.now image.now.entry) }
+    ensures loops { IfOk result (AreLoops image.now) }
     ensures faultless { OnOk result (HasNoFault image.now image.now.entry) }
     ensures bad { IfErr result (TellsCode image.now) }
 {
@@ -83,7 +81,7 @@ pub fn loops_of(alloc: Global, image: &Image) -> Result<Nests, Refused>
 ///
 /// `Fault` says that there is none.
 pub fn check_return(image: &Image, reached: &[Reached]) -> Result<(), Refused>
-    requires { AreReached image.now image.now.entry reached.now }
+    requires { AreFollowed image.now image.now.entry reached.now }
     ensures returns { OnOk result (Returns image.now image.now.entry) }
     ensures never { IfErr result (TellsNoReturn image.now) }
 {

@@ -3,11 +3,11 @@
 ghost use Rattle.std.specs.Prelude.{◌≡◌, ◌+◌, ◌*◌, ◌^◌, ◌<◌, ◌≤◌, ◌++◌, All, ℕ, length, map, IfOk, IfSome};
 ghost use Rattle.elf_mips.specs.declared.image.Image.{Image};
 ghost use Rattle.net_model.specs.Net.{IsNet};
-ghost use Rattle.unit_graph.specs.Contents.{AreReached};
 ghost use Rattle.loop_nest.specs.Nests.{IsNest};
 ghost use Rattle.wcet_engine.specs.Arcs.{AreArcs, ArePlaces, IsOfFunction, arcs_from, ends_of, leaves, returns_in, targets_of};
 ghost use Rattle.wcet_engine.specs.Around.{AreOfFunction};
 ghost use Rattle.wcet_engine.specs.Table.{IsTable, listed, steps_in};
+ghost use Rattle.wcet_engine.specs.Unbuilt.{AreFollowed};
 
 use crate::around::{around_of, instances_of, own_headers};
 use crate::table::{Steps, number_of, position_of};
@@ -135,7 +135,7 @@ pub fn net_of(
     requires few { length reached.now < 2 ^ 31 }
     requires few_loops { length loops.now < 2 ^ 31 }
     ensures net { IfOk result (λ net.
-        (image : Image) → AreReached image entry reached.now → IsNest image entry loops.now → IsNet image entry net) }
+        (image : Image) → AreFollowed image entry reached.now → IsNest image entry loops.now → IsNet image entry net) }
     ensures few { IfOk result (λ net. length net.arcs + returns_in reached.now ≤ 1 + 2 * length reached.now) }
 {
     let arcs = arcs_of(alloc, entry, reached, table)?;

@@ -66,7 +66,7 @@ returns-in_err-nests-clause-refused c =
     let apart = no-clash image c.plain-profile.result plain
     (finds-none (IsClash image c.plain-profile.result) c.clash_place.result c.in_default.not-Some c.clash_place.ensures) in
     let nine = free-apart c.args.elf.now image free apart in
-    let ten = free-built c.args.elf.now image nine c.in_ok-code.ensures.code.followed in
+    let ten = free-built c.args.elf.now image nine c.in_ok-code.ensures.code.units.followed in
     let p = err_from_is_err_and c.from_residual-in_err-nests.result c.from_residual-in_err-nests.ensures.1 in
     rw (p.1, p.2) (tells-code c.args.elf.now image _ ten c.in_err-nests.ensures.bad)
 
@@ -87,10 +87,9 @@ returns-in_err-check_return-clause-refused c =
     let apart = no-clash image c.plain-profile.result plain
     (finds-none (IsClash image c.plain-profile.result) c.clash_place.result c.in_default.not-Some c.clash_place.ensures) in
     let nine = free-apart c.args.elf.now image free apart in
-    let ten = free-built c.args.elf.now image nine c.in_ok-code.ensures.code.followed in
-    let loops = c.in_ok-nests.ensures.loops in
+    let ten = free-built c.args.elf.now image nine c.in_ok-code.ensures.code.units.followed in
     let faultless = c.in_ok-nests.ensures.faultless in
-    let eighteen = free-code c.args.elf.now image ten (code-faultless image loops.first faultless loops.nest) in
+    let eighteen = free-code c.args.elf.now image ten (code-faultless image c.in_ok-nests.nests faultless c.in_ok-nests.ensures.loops) in
     let p = err_from_is_err_and c.from_residual-in_err-check_return.result c.from_residual-in_err-check_return.ensures.1 in
     rw (p.1, p.2) (tells-never c.args.elf.now image _ eighteen c.in_err-check_return.ensures.never)
 
@@ -111,10 +110,9 @@ returns-in_err-certificate-clause-refused c =
     let apart = no-clash image c.plain-profile.result plain
     (finds-none (IsClash image c.plain-profile.result) c.clash_place.result c.in_default.not-Some c.clash_place.ensures) in
     let nine = free-apart c.args.elf.now image free apart in
-    let ten = free-built c.args.elf.now image nine c.in_ok-code.ensures.code.followed in
-    let loops = c.in_ok-nests.ensures.loops in
+    let ten = free-built c.args.elf.now image nine c.in_ok-code.ensures.code.units.followed in
     let faultless = c.in_ok-nests.ensures.faultless in
-    let eighteen = free-code c.args.elf.now image ten (code-faultless image loops.first faultless loops.nest) in
+    let eighteen = free-code c.args.elf.now image ten (code-faultless image c.in_ok-nests.nests faultless c.in_ok-nests.ensures.loops) in
     let nineteen = free-returning c.args.elf.now image eighteen (returns-not image c.in_ok-check_return.ensures.returns) in
     let p = err_from_is_err_and c.from_residual-in_err-certificate.result c.from_residual-in_err-certificate.ensures.1 in
     rw (p.1, p.2) (tells-large c.args.elf.now image c.plain-profile.result _ plain nineteen c.in_err-certificate.ensures.large)
@@ -136,10 +134,9 @@ returns-clause-analysed c =
     let apart = no-clash image c.plain-profile.result plain
     (finds-none (IsClash image c.plain-profile.result) c.clash_place.result c.in_default.not-Some c.clash_place.ensures) in
     let nine = free-apart c.args.elf.now image free apart in
-    let ten = free-built c.args.elf.now image nine c.in_ok-code.ensures.code.followed in
-    let loops = c.in_ok-nests.ensures.loops in
+    let ten = free-built c.args.elf.now image nine c.in_ok-code.ensures.code.units.followed in
     let faultless = c.in_ok-nests.ensures.faultless in
-    let eighteen = free-code c.args.elf.now image ten (code-faultless image loops.first faultless loops.nest) in
+    let eighteen = free-code c.args.elf.now image ten (code-faultless image c.in_ok-nests.nests faultless c.in_ok-nests.ensures.loops) in
     let nineteen = free-returning c.args.elf.now image eighteen (returns-not image c.in_ok-check_return.ensures.returns) in
     is-analysed c.args.elf.now image c.plain-profile.result c.in_ok-certificate.certificate nineteen faultless
-    c.in_ok-code.ensures.code.followed plain c.in_ok-certificate.ensures.certified
+    c.in_ok-code.ensures.code.units.followed plain c.in_ok-certificate.ensures.certified

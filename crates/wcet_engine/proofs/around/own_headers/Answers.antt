@@ -30,7 +30,7 @@ loop-position-preserved c =
     let at = c.position_of-place.ensures in
     let position = c.loop-position.position in
     let one = get_or loops position c.index-loops-position.result in
-    scopes-more c.args.reached.now loops position c.loop-position.numbers one c.position_of-place.result c.number_of.result contents.rising
+    scopes-more c.args.reached.now loops position c.loop-position.numbers one c.position_of-place.result c.number_of.result contents.contents.rising
     (slice_get-get_or loops position c.index-loops-position.result c.loop-position-test.true) at c.number_of.ensures
     (omega (arith, slice_get_within c.args.reached.now c.position_of-place.result at.one at.there, c.loop-position.invariant.count))
     c.loop-position.invariant

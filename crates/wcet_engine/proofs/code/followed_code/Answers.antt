@@ -23,8 +23,10 @@ pub returns-clause-code : goal.returns-clause-code
 returns-clause-code c =
     let same = ap (λ (rs : List Reached). option_map (λ (r : Reached). r.address) (find (λ (r : Reached). content_left r.content) rs)) (sym c.as_slice.ensures) in
     record {
-      contents = c.in_ok-reached.ensures;
+      units = record {
+        contents = c.in_ok-reached.ensures;
+        followed = none-left c.args.image.now c.args.image.now.entry c.in_ok-reached.reached c.in_ok-reached.ensures
+            (λ place found. c.in_default.not-Some place (c.first_left.ensures ∙ sym same ∙ found));
+      };
       steps = subst (λ (rs : List Reached). IsTable rs c.in_ok-table.table.items) c.as_slice-2.ensures c.in_ok-table.ensures;
-      followed = none-left c.args.image.now c.args.image.now.entry c.in_ok-reached.reached c.in_ok-reached.ensures
-          (λ place found. c.in_default.not-Some place (c.first_left.ensures ∙ sym same ∙ found));
     }

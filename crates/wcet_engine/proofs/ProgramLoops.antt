@@ -1,0 +1,61 @@
+-- The loops of a program's functions: those of each, and those of the entry, which come first.
+use Rattle.std.proofs.Common.{◌≡◌, ℕ, ◌<◌, ◌⊎◌, inl, inr, List, [], ◌∷◌, length, map, get_or, refl, sym, ap, subst, ◌∙◌, arith}
+use Rattle.std.specs.Prelude.{Contains}
+use Rattle.std.specs.List.{AllZip}
+use Rattle.elf_mips.specs.declared.image.Image.{Image}
+use Rattle.loop_nest.specs.Nests.{IsNest}
+use Rattle.loop_nest.specs.Programs.{IsIrreducibleIn, IsNestOf, IsUnboundedIn}
+use Rattle.loop_nest.specs.declared.nest.Loop.{Loop}
+use Rattle.loop_nest.specs.declared.nest.Nests.{Nests}
+use Rattle.loop_nest.proofs.HeaderRank.{ranks-reducible}
+use Rattle.loop_nest.proofs.NestLaws.{nest-bounded}
+use Rattle.loop_nest.proofs.Ordered.{cases-in, nothing-in}
+use Rattle.net_model.specs.Functions.{IsFunction}
+use Rattle.unit_graph.specs.declared.graph.Graph.{Graph}
+use Rattle.wcet_engine.specs.Code.{AreLoops}
+
+-- The loops of a function of the program.
+nest-in : (image : Image) (graphs : List Graph) (nests : List (List Loop)) (function : ℕ) → AllZip (IsNestOf image) graphs nests →
+    Contains (map (λ (g : Graph). g.entry) graphs) function → (loops : List Loop) × IsNest image function loops
+nest-in image [] nests function zip there = absurd (nothing-in function there)
+nest-in image (graph ∷ graphs) [] function zip there = absurd zip
+nest-in image (graph ∷ graphs) (loops ∷ nests) function zip there =
+    by_place (cases-in graph.entry (map (λ (g : Graph). g.entry) graphs) function there) where
+  by_place : (graph.entry ≡ function) ⊎ Contains (map (λ (g : Graph). g.entry) graphs) function → (found : List Loop) × IsNest image function found
+  by_place (inl same) = (loops, subst (λ (f : ℕ). IsNest image f loops) same zip.0)
+  by_place (inr behind) = nest-in image graphs nests function zip.1 behind
+
+nest-of : (image : Image) (nests : Nests) → AreLoops image nests → (function : ℕ) → IsFunction image image.entry function →
+    (loops : List Loop) × IsNest image function loops
+nest-of image nests are function is = nest-in image are.graphs.graphs nests.nests function are.loops (are.drawn.whole function is)
+
+-- No function of the program has a fault of its loops.
+pub none-irreducible : (image : Image) (nests : Nests) → AreLoops image nests → (place : ℕ) → IsIrreducibleIn image image.entry place → ⊥
+none-irreducible image nests are place fault =
+    let nest = nest-of image nests are fault.function fault.is in
+    ranks-reducible image fault.function nest.1.ranks place fault.here
+
+pub none-unbounded : (image : Image) (nests : Nests) → AreLoops image nests → (place : ℕ) → IsUnboundedIn image image.entry place → ⊥
+none-unbounded image nests are place fault =
+    let nest = nest-of image nests are fault.function fault.is in
+    nest-bounded image fault.function nest.0 nest.1 place fault.here
+
+-- The first loops are those of the entry.
+first-in-nests : (image : Image) (first : Graph) (others : List Graph) (nests : List (List Loop)) (d : List Loop) → AllZip (IsNestOf image) (first ∷ others) nests →
+    (0 < length nests) × IsNest image first.entry (get_or nests 0 d)
+first-in-nests image first others [] d zip = absurd zip
+first-in-nests image first others (loops ∷ more) d zip = (omega arith, zip.0)
+
+first-nest : (image : Image) (nests : Nests) → AreLoops image nests → (d : List Loop) →
+    (0 < length nests.nests) × IsNest image image.entry (get_or nests.nests 0 d)
+first-nest image nests are d =
+    let drawn = are.drawn in
+    let found = first-in-nests image drawn.first drawn.others nests.nests d
+    (subst (λ (graphs : List Graph). AllZip (IsNestOf image) graphs nests.nests) drawn.parts are.loops) in
+    (found.0, subst (λ (f : ℕ). IsNest image f (get_or nests.nests 0 d)) drawn.begins found.1)
+
+pub nests-some : (image : Image) (nests : Nests) → AreLoops image nests → 0 < length nests.nests
+nests-some image nests are = (first-nest image nests are []).0
+
+pub entry-nest : (image : Image) (nests : Nests) → AreLoops image nests → (d : List Loop) → IsNest image image.entry (get_or nests.nests 0 d)
+entry-nest image nests are d = (first-nest image nests are d).1
