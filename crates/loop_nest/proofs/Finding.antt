@@ -68,8 +68,11 @@ found_fault image graphs graph nests first result k place found tells either new
   where
     by_case : (first ≡ Some result) ⊎ (result ≡ record { kind = k; place = place }) → IsAmong image (Some result) (graphs ++ graph ∷ [])
     by_case (inl e) = among_more image (Some result) graphs graph (subst (λ (o : Option Offence). IsAmong image o graphs) e found.among)
-    by_case (inr e) = (graph, Contains-push graphs graph,
-      subst (λ (o : Offence). TellsKind image graph.entry o.kind o.place) (sym e) tells)
+    by_case (inr e) = (
+      graph,
+      Contains-push graphs graph,
+      subst (λ (o : Offence). TellsKind image graph.entry o.kind o.place) (sym e) tells,
+    )
 
 -- A function's graph is listed.
 preimage : (graphs : List Graph) (function : ℕ) → Contains (map (λ (g : Graph). g.entry) graphs) function →

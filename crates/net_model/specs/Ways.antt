@@ -1,4 +1,4 @@
--- Ways through the units of a function.
+-- Plain ways through the units of a function: calls and indirect jumps aren't followed.
 use Rattle.std.specs.Prelude.{◌≡◌, ℕ, List, [], ◌∷◌, Contains}
 use Rattle.elf_mips.specs.declared.image.Image.{Image}
 use Rattle.net_model.specs.declared.unit.CodeUnit.{CodeUnit}
