@@ -35,7 +35,6 @@ module _ (net : Net) (tables : Tables) (price : ℕ → ℕ) (program : Program)
     (found : AreUp net (entry tables.scopes.depths.items) 0 up)
     (swept : IsSwept (plain net tables) 0 (round_by net up) weight best choice)
     (shown : total ≡ weight 1 + best ((plain net tables).to 1) - 1) where
-
   abbrev s : Shape
   s = plain net tables
 

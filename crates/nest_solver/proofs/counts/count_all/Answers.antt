@@ -65,7 +65,7 @@ put_back-requires-clause-ready c =
           (subst (λ (from : ℕ). Follows s 0 choice from walked.way) c.target.ensures walked.follows)
           (λ i u. walked.counts i u
           ∙ ap (λ n. n + 1 * times walked.way i)
-              (counts-first c.args.counts.now i c.requires.fresh (omega (arith, u, c.requires.counts))));
+          (counts-first c.args.counts.now i c.requires.fresh (omega (arith, u, c.requires.counts))));
     }
 
 pub returns : goal.returns
@@ -84,17 +84,17 @@ returns c =
       count = omega (arith, c.put_back.auto, c.walk.auto, c.requires.counts, length-set c.args.counts.now 1 1);
       greatest = record {
         greatest = λ price program is start.
-          let levels = c.solve_all.ensures.levels price start in
-          out-greatest net tables price program weight turns up best choice total c.requires.nested c.requires.tables is
-          levels c.solve_all.ensures.up c.solve_all.ensures.swept c.solve_all.ensures.total walked.way
-          (entry c.put_back.new.counts) c.args.deepest c.requires.deepest
-          (c.put_back.ensures.ready price (1 ∷ walked.way) total
-          (out-ready net tables price program weight turns up best choice total c.requires.nested c.requires.tables is
-          levels c.solve_all.ensures.up c.solve_all.ensures.swept c.solve_all.ensures.total walked.way
-          (entry c.walk.new.counts)
-          (subst (λ (from : ℕ). Follows s 0 choice from walked.way) c.target.ensures walked.follows)
-          (λ i u. walked.counts i u
-          ∙ ap (λ n. n + 1 * times walked.way i)
-              (counts-first c.args.counts.now i c.requires.fresh (omega (arith, u, c.requires.counts))))));
+            let levels = c.solve_all.ensures.levels price start in
+            out-greatest net tables price program weight turns up best choice total c.requires.nested c.requires.tables is
+            levels c.solve_all.ensures.up c.solve_all.ensures.swept c.solve_all.ensures.total walked.way
+            (entry c.put_back.new.counts) c.args.deepest c.requires.deepest
+            (c.put_back.ensures.ready price (1 ∷ walked.way) total
+            (out-ready net tables price program weight turns up best choice total c.requires.nested c.requires.tables is
+            levels c.solve_all.ensures.up c.solve_all.ensures.swept c.solve_all.ensures.total walked.way
+            (entry c.walk.new.counts)
+            (subst (λ (from : ℕ). Follows s 0 choice from walked.way) c.target.ensures walked.follows)
+            (λ i u. walked.counts i u
+            ∙ ap (λ n. n + 1 * times walked.way i)
+            (counts-first c.args.counts.now i c.requires.fresh (omega (arith, u, c.requires.counts))))));
       };
     }

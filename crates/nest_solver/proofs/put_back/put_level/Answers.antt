@@ -97,6 +97,6 @@ returns c =
           (tables-nest c.args.net.now c.args.tables.now c.requires.nested c.requires.tables) begun
           (subst
           (λ (k : ℕ). IsPutting s (weight_of s value turns) turns (entry c.args.counts.now) c.args.depth k
-              (entry c.loop-scope.counts)) (let e : c.loop-scope.scope ≡ 0 = omega (arith, c.loop-scope-test.false) in e)
+          (entry c.loop-scope.counts)) (let e : c.loop-scope.scope ≡ 0 = omega (arith, c.loop-scope-test.false) in e)
           (c.loop-scope.invariant.putting value turns path total begun));
     }
