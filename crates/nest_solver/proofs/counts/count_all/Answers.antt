@@ -1,14 +1,9 @@
 -- The way out is counted, then the turns of each depth.
-use Rattle.std.proofs.Common.{◌≡◌, ℕ, ◌+◌, ◌*◌, ◌^◌, ◌<◌, ◌==◌, List, ◌∷◌, length, length-set, set, sym, ap, subst, ◌∙◌, arith}
-use Rattle.ipet_program.specs.Programs.{IsProgramOf}
-use Rattle.ipet_program.specs.declared.program.Program.{Program}
-use Rattle.nest_solver.specs.Begun.{IsReady}
-use Rattle.nest_solver.specs.Counted.{bit, times}
-use Rattle.nest_solver.specs.Levels.{AreLevels}
+use Rattle.std.proofs.Common.{ℕ, ◌+◌, ◌*◌, ◌∷◌, length-set, set, sym, ap, subst, ◌∙◌, arith}
+use Rattle.nest_solver.specs.Counted.{times}
 use Rattle.nest_solver.specs.Nets.{entry, round_by}
 use Rattle.nest_solver.specs.Plain.{plain}
-use Rattle.nest_solver.specs.Shape.{IsUpTo}
-use Rattle.nest_solver.specs.Walks.{Follows, IsWalkable, IsWalked}
+use Rattle.nest_solver.specs.Walks.{Follows, IsWalkable}
 use Rattle.nest_solver.proofs.Outward.{counts-first, live, out-greatest, out-ready, out-room}
 use Rattle.nest_solver.proofs.counts.count_all.Goals as goal
 

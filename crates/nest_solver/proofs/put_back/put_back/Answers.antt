@@ -1,5 +1,5 @@
 -- Depth after depth.
-use Rattle.std.proofs.Common.{◌≡◌, ℕ, ◌+◌, ◌-◌, ◌<◌, ◌≤◌, List, sym, ap, subst, arith}
+use Rattle.std.proofs.Common.{◌≡◌, ℕ, ◌+◌, ◌-◌, subst, arith}
 use Rattle.nest_solver.specs.Begun.{IsReady}
 use Rattle.nest_solver.specs.Nets.{entry}
 use Rattle.nest_solver.specs.Plain.{plain}

@@ -1,10 +1,8 @@
 -- The loops of the depth come by falling numbers, and each one's turn is put back.
-use Rattle.std.proofs.Common.{◌≡◌, ℕ, zero, suc, ◌+◌, ◌-◌, ◌<◌, ◌≤◌, List, length, sym, ap, subst, ◌∙◌, arith}
-use Rattle.nest_solver.specs.Begun.{IsAtTurn, IsBegun}
-use Rattle.nest_solver.specs.Counted.{IsPath}
+use Rattle.std.proofs.Common.{◌≡◌, ℕ, ap, subst, ◌∙◌, arith}
 use Rattle.nest_solver.specs.Nets.{entry}
 use Rattle.nest_solver.specs.Plain.{plain}
-use Rattle.nest_solver.specs.Putting.{IsCountedTo, IsPutting}
+use Rattle.nest_solver.specs.Putting.{IsPutting}
 use Rattle.nest_solver.specs.Shape.{IsUpTo}
 use Rattle.nest_solver.specs.Solved.{weight_of}
 use Rattle.nest_solver.proofs.Plains.{tables-nest}
