@@ -1,5 +1,5 @@
 -- The way out is counted first, and there is room for it.
-use Rattle.std.proofs.Common.{◌≡◌, ℕ, ◌+◌, ◌-◌, ◌*◌, ◌^◌, ◌<◌, ◌≤◌, ◌==◌, List, [], ◌∷◌, length, sum_by, refl, sym, ap, ◌∙◌, subst, arith}
+use Rattle.std.proofs.Common.{◌≡◌, ℕ, ◌+◌, ◌-◌, ◌*◌, ◌^◌, ◌<◌, ◌≤◌, ◌==◌, List, [], ◌∷◌, length, refl, sym, ap, ◌∙◌, arith}
 use Rattle.std.proofs.lemmas.List.Sums.{sum_by-cons}
 use Rattle.std.proofs.lemmas.Bool.{cases_eq}
 use Rattle.std.proofs.Common.{inl, inr, set}
@@ -17,7 +17,7 @@ use Rattle.nest_solver.specs.Nets.{AreUp, entry, round_by, value_at_end}
 use Rattle.nest_solver.specs.Plain.{AreTables, plain}
 use Rattle.nest_solver.specs.Shape.{Shape, IsNest, IsUpTo}
 use Rattle.nest_solver.specs.Solved.{weight_of}
-use Rattle.nest_solver.specs.Walks.{Follows, IsWalkable}
+use Rattle.nest_solver.specs.Walks.{Follows}
 use Rattle.nest_solver.specs.Ways.{IsRound, IsSwept}
 use Rattle.nest_solver.specs.declared.tables.Tables.{Tables}
 use Rattle.nest_solver.proofs.Answering.{counts-greatest, total-in, values-some}
@@ -35,7 +35,6 @@ module _ (net : Net) (tables : Tables) (price : ℕ → ℕ) (program : Program)
     (found : AreUp net (entry tables.scopes.depths.items) 0 up)
     (swept : IsSwept (plain net tables) 0 (round_by net up) weight best choice)
     (shown : total ≡ weight 1 + best ((plain net tables).to 1) - 1) where
-
   abbrev s : Shape
   s = plain net tables
 

@@ -1,7 +1,7 @@
 -- The turn of one loop is put back by a walk from its header.
 use Rattle.std.proofs.lemmas.Bool.Decides.{nat_tests}
 use Rattle.nest_solver.specs.Nets.{entry, value_at_end}
-use Rattle.std.proofs.Common.{◌≡◌, ◌⊎◌, ℕ, zero, suc, ◌+◌, ◌-◌, ◌*◌, ◌^◌, ◌<◌, ◌≤◌, ◌==◌, ◌&&◌, not, Bool, true, false, length, set, mul_comm, List, [], ◌∷◌, sum_by, refl, sym, ap, ◌∙◌, subst, inl, inr, arith, mul-le-mul_left}
+use Rattle.std.proofs.Common.{◌≡◌, ℕ, zero, suc, ◌+◌, ◌-◌, ◌*◌, ◌<◌, ◌≤◌, ◌==◌, ◌&&◌, not, Bool, true, false, length, set, mul_comm, List, [], ◌∷◌, refl, sym, ap, ◌∙◌, subst, inl, inr, arith}
 use Rattle.ipet_program.specs.Programs.{crude_limit}
 use Rattle.ipet_program.specs.Sums.{sum_to}
 use Rattle.nest_solver.specs.Shape.{Shape, IsNest, IsUpTo, is_back, is_entering, target}
@@ -47,7 +47,6 @@ followed-turn s value turns path total depth best choice start k way nest begun 
 module _ (s : Shape) (value turns : ℕ → ℕ) (path : List ℕ) (total depth k : ℕ) (best choice often start counts : ℕ → ℕ)
     (nest : IsNest s) (u : IsUpTo s.loops k) (deep : s.depth k ≡ depth)
     (at : IsAtTurn s value turns path total depth k best choice often start counts) where
-
   split : depth ≡ suc (depth - 1)
   split = omega (arith, at.begun.deep)
 
@@ -115,12 +114,15 @@ module _ (s : Shape) (value turns : ℕ → ℕ) (path : List ℕ) (total depth 
       IsPutting s (weight_of s value turns) turns start depth next counts
   turn-none next none less between =
       putting-more s (weight_of s value turns) turns start counts counts depth k next [] at.putting u deep
-      (inl (refl, omega (
-        arith,
-        none,
-        turned-again s value turns at.begun.round best choice depth nest (at.begun.settled.solved depth at.begun.deep)
-            at.begun.rounds at.begun.swept k u deep,
-      )))
+      (inl (
+        refl,
+        omega (
+          arith,
+          none,
+          turned-again s value turns at.begun.round best choice depth nest (at.begun.settled.solved depth at.begun.deep)
+              at.begun.rounds at.begun.swept k u deep,
+        ),
+      ))
       (λ i v. omega arith) less between
 
 -- ---- How often loops are entered.
@@ -131,9 +133,9 @@ pub enters-put : (s : Shape) (table : List ℕ) (i at more l : ℕ) → at ≡ t
 enters-put s table i at more l is some forward low =
     counts-pass table at at more refl low l
     ∙ ap (λ n. entry table l + n)
-        (mul_comm more (bit (at == l))
-        ∙ ap (λ b. b * more)
-            (ap (λ (t : ℕ). bit (t == l)) is ∙ sym (ap (λ (b : Bool). bit (b && (target s i == l))) entering)))
+    (mul_comm more (bit (at == l))
+    ∙ ap (λ b. b * more)
+    (ap (λ (t : ℕ). bit (t == l)) is ∙ sym (ap (λ (b : Bool). bit (b && (target s i == l))) entering)))
   where
     by : (t : ℕ) (h : Bool) → (t ≡ 0 → ⊥) → (not (t == 0) && h) ≡ false → (not (t == 0) && not h) ≡ true
     by t true n e = grind (arith, nat_tests)

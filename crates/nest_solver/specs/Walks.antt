@@ -1,5 +1,5 @@
 -- Walks along the arcs that were chosen, and the counts that they add.
-use Rattle.std.specs.Prelude.{◌≡◌, ◌⊎◌, ℕ, ◌+◌, ◌*◌, ◌^◌, ◌<◌, ◌≤◌, true, false, List, [], ◌∷◌}
+use Rattle.std.specs.Prelude.{◌≡◌, ◌⊎◌, ℕ, ◌+◌, ◌*◌, ◌^◌, ◌<◌, true, false, List, [], ◌∷◌}
 use Rattle.nest_solver.specs.Shape.{Shape, IsUpTo}
 use Rattle.nest_solver.specs.Ways.{IsSwept, closes}
 use Rattle.nest_solver.specs.Counted.{times}
@@ -11,7 +11,7 @@ Follows s depth choice from [] = ⊥
 Follows s depth choice from (i ∷ more) =
     (i ≡ choice from)
     × (((closes s depth i ≡ true) × (more ≡ []))
-        ⊎ ((closes s depth i ≡ false) × Follows s depth choice (s.to i) more))
+    ⊎ ((closes s depth i ≡ false) × Follows s depth choice (s.to i) more))
 
 -- A sweep chose the arcs, and found a way from the place; along it each count may grow.
 pub record IsWalkable (s : Shape) (depth : ℕ) (choice : ℕ → ℕ) (from often : ℕ) (counts : ℕ → ℕ) : Type 0 where

@@ -127,11 +127,7 @@ fn count(
 /// Counts of the greatest value of the program of a nested net: those above 0, by rising column.
 ///
 /// It takes a step for each arc and each depth of the loops.
-pub fn nest_counts(
-    alloc: Global,
-    program: &Program,
-    net: &Net,
-) -> Result<List<Count>, AllocError>
+pub fn nest_counts(alloc: Global, program: &Program, net: &Net) -> Result<List<Count>, AllocError>
     requires nested { IsNested net.now }
     requires few { IsFew net.now }
     requires program { IsProgramOfNet net.now program.now }

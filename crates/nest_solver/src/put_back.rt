@@ -42,12 +42,12 @@ fn put_turn(
         (entry counts.old) }
     ensures put { (value turns start : ℕ → ℕ) (path : List ℕ) (total next : ℕ) →
         IsAtTurn (plain net.now tables.now) value turns path total depth scope (entry best.now) (entry choice.now)
-            (entry often.now) start (entry counts.old) →
+        (entry often.now) start (entry counts.old) →
         next < scope →
         ((l : ℕ) → IsUpTo (length net.now.loops) l → entry tables.now.scopes.depths.items l ≡ depth → next < l →
-            l < scope → ⊥) →
+        l < scope → ⊥) →
         IsPutting (plain net.now tables.now) (weight_of (plain net.now tables.now) value turns) turns start depth next
-            (entry counts.new) }
+        (entry counts.new) }
 {
     let head = header(net, scope);
     if best[head] == 0 {
@@ -80,9 +80,9 @@ fn put_level(
     requires begun { SomeBegun (plain net.now tables.now) depth (entry best.now) (entry choice.now) (entry counts.old) }
     ensures counted { (value turns : ℕ → ℕ) (path : List ℕ) (total : ℕ) →
         IsBegun (plain net.now tables.now) value turns path total depth (entry best.now) (entry choice.now)
-            (entry counts.old) →
+        (entry counts.old) →
         IsCountedTo (plain net.now tables.now) (weight_of (plain net.now tables.now) value turns) turns path depth
-            (entry counts.new) }
+        (entry counts.new) }
 {
     let mut scope = tables.scopes.heads[depth];
     while scope != 0 {
@@ -119,9 +119,9 @@ fn put_depth(
         (entry counts.old) }
     ensures ready { (price : ℕ → ℕ) (path : List ℕ) (total : ℕ) →
         IsReady (plain net.now tables.now) price (entry weights.now) (entry turns.now) path total (depth - 1)
-            (entry counts.old) →
+        (entry counts.old) →
         IsReady (plain net.now tables.now) price (entry weights.now) (entry turns.now) path total depth
-            (entry counts.new) }
+        (entry counts.new) }
 {
     level(net, tables, depth, weights, up, best, choice);
     note_entered(net, tables, counts, often);
@@ -154,11 +154,13 @@ pub fn put_back(
     requires ready { SomeReady (plain net.now tables.now) (entry weights.now) (entry turns.now) 0 (entry counts.old) }
     ensures ready { (price : ℕ → ℕ) (path : List ℕ) (total : ℕ) →
         IsReady (plain net.now tables.now) price (entry weights.now) (entry turns.now) path total 0
-            (entry counts.old) →
+        (entry counts.old) →
         IsReady (plain net.now tables.now) price (entry weights.now) (entry turns.now) path total deepest
-            (entry counts.new) }
+        (entry counts.new) }
 {
     for depth in 1..deepest + 1 {
-        put_depth(net, tables, depth, weights, turns, up, best, choice, often, counts);
+        put_depth(
+            net, tables, depth, weights, turns, up, best, choice, often, counts,
+        );
     }
 }

@@ -1,14 +1,9 @@
 -- The way out is counted, then the turns of each depth.
-use Rattle.std.proofs.Common.{◌≡◌, ℕ, ◌+◌, ◌*◌, ◌^◌, ◌<◌, ◌==◌, List, ◌∷◌, length, length-set, set, sym, ap, subst, ◌∙◌, arith}
-use Rattle.ipet_program.specs.Programs.{IsProgramOf}
-use Rattle.ipet_program.specs.declared.program.Program.{Program}
-use Rattle.nest_solver.specs.Begun.{IsReady}
-use Rattle.nest_solver.specs.Counted.{bit, times}
-use Rattle.nest_solver.specs.Levels.{AreLevels}
+use Rattle.std.proofs.Common.{ℕ, ◌+◌, ◌*◌, ◌∷◌, length-set, set, sym, ap, subst, ◌∙◌, arith}
+use Rattle.nest_solver.specs.Counted.{times}
 use Rattle.nest_solver.specs.Nets.{entry, round_by}
 use Rattle.nest_solver.specs.Plain.{plain}
-use Rattle.nest_solver.specs.Shape.{IsUpTo}
-use Rattle.nest_solver.specs.Walks.{Follows, IsWalkable, IsWalked}
+use Rattle.nest_solver.specs.Walks.{Follows, IsWalkable}
 use Rattle.nest_solver.proofs.Outward.{counts-first, live, out-greatest, out-ready, out-room}
 use Rattle.nest_solver.proofs.counts.count_all.Goals as goal
 
@@ -65,7 +60,7 @@ put_back-requires-clause-ready c =
           (subst (λ (from : ℕ). Follows s 0 choice from walked.way) c.target.ensures walked.follows)
           (λ i u. walked.counts i u
           ∙ ap (λ n. n + 1 * times walked.way i)
-              (counts-first c.args.counts.now i c.requires.fresh (omega (arith, u, c.requires.counts))));
+          (counts-first c.args.counts.now i c.requires.fresh (omega (arith, u, c.requires.counts))));
     }
 
 pub returns : goal.returns
@@ -84,17 +79,17 @@ returns c =
       count = omega (arith, c.put_back.auto, c.walk.auto, c.requires.counts, length-set c.args.counts.now 1 1);
       greatest = record {
         greatest = λ price program is start.
-          let levels = c.solve_all.ensures.levels price start in
-          out-greatest net tables price program weight turns up best choice total c.requires.nested c.requires.tables is
-          levels c.solve_all.ensures.up c.solve_all.ensures.swept c.solve_all.ensures.total walked.way
-          (entry c.put_back.new.counts) c.args.deepest c.requires.deepest
-          (c.put_back.ensures.ready price (1 ∷ walked.way) total
-          (out-ready net tables price program weight turns up best choice total c.requires.nested c.requires.tables is
-          levels c.solve_all.ensures.up c.solve_all.ensures.swept c.solve_all.ensures.total walked.way
-          (entry c.walk.new.counts)
-          (subst (λ (from : ℕ). Follows s 0 choice from walked.way) c.target.ensures walked.follows)
-          (λ i u. walked.counts i u
-          ∙ ap (λ n. n + 1 * times walked.way i)
-              (counts-first c.args.counts.now i c.requires.fresh (omega (arith, u, c.requires.counts))))));
+            let levels = c.solve_all.ensures.levels price start in
+            out-greatest net tables price program weight turns up best choice total c.requires.nested c.requires.tables is
+            levels c.solve_all.ensures.up c.solve_all.ensures.swept c.solve_all.ensures.total walked.way
+            (entry c.put_back.new.counts) c.args.deepest c.requires.deepest
+            (c.put_back.ensures.ready price (1 ∷ walked.way) total
+            (out-ready net tables price program weight turns up best choice total c.requires.nested c.requires.tables is
+            levels c.solve_all.ensures.up c.solve_all.ensures.swept c.solve_all.ensures.total walked.way
+            (entry c.walk.new.counts)
+            (subst (λ (from : ℕ). Follows s 0 choice from walked.way) c.target.ensures walked.follows)
+            (λ i u. walked.counts i u
+            ∙ ap (λ n. n + 1 * times walked.way i)
+            (counts-first c.args.counts.now i c.requires.fresh (omega (arith, u, c.requires.counts))))));
       };
     }

@@ -1,4 +1,4 @@
-use Rattle.std.proofs.Common.{◌≡◌, ℕ, ◌+◌, ◌-◌, ◌≤◌, ◌∙◌, List, length, sym, ap, subst, arith}
+use Rattle.std.proofs.Common.{ℕ, ◌+◌, ◌≤◌, ◌∙◌, List, length, sym, ap, subst, arith}
 use Rattle.flow_net.specs.declared.net.LoopInst.{LoopInst}
 use Rattle.std.proofs.Math.ListN.{replicate}
 use Rattle.nest_solver.specs.Nets.{entry}

@@ -1,10 +1,9 @@
 -- The arcs so far, and the next one.
-use Rattle.std.proofs.Common.{◌≡◌, ℕ, suc, ◌+◌, ◌-◌, ◌*◌, ◌<◌, ◌≤◌, length, sym, ap, subst, ◌∙◌, arith}
+use Rattle.std.proofs.Common.{◌≡◌, ℕ, ◌+◌, ◌-◌, ◌*◌, length, sym, ap, ◌∙◌, arith}
 use Rattle.ipet_program.specs.Sums.{sum_to}
 use Rattle.nest_solver.specs.Counted.{bit, enters}
 use Rattle.nest_solver.specs.Nets.{entry}
 use Rattle.nest_solver.specs.Plain.{plain}
-use Rattle.nest_solver.specs.Shape.{IsUpTo}
 use Rattle.nest_solver.proofs.CountRoom.{sum-front}
 use Rattle.nest_solver.proofs.Turning.{sum-next}
 use Rattle.nest_solver.proofs.entered.note_entered.Goals as goal

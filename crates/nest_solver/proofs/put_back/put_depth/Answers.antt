@@ -1,5 +1,5 @@
 -- The level is swept again, and its turns are put back.
-use Rattle.std.proofs.Common.{◌≡◌, ℕ, ◌+◌, ◌-◌, ◌<◌, ◌≤◌, List, length, sym, ap, subst, ◌∙◌, arith}
+use Rattle.std.proofs.Common.{◌-◌, arith}
 use Rattle.nest_solver.specs.Nets.{entry, round_by, value_at_end}
 use Rattle.nest_solver.specs.Plain.{plain}
 use Rattle.nest_solver.proofs.Levels.{levels-roomy_all}

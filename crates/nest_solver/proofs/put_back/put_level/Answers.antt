@@ -1,10 +1,8 @@
 -- The loops of the depth come by falling numbers, and each one's turn is put back.
-use Rattle.std.proofs.Common.{◌≡◌, ℕ, zero, suc, ◌+◌, ◌-◌, ◌<◌, ◌≤◌, List, length, sym, ap, subst, ◌∙◌, arith}
-use Rattle.nest_solver.specs.Begun.{IsAtTurn, IsBegun}
-use Rattle.nest_solver.specs.Counted.{IsPath}
+use Rattle.std.proofs.Common.{◌≡◌, ℕ, ap, subst, ◌∙◌, arith}
 use Rattle.nest_solver.specs.Nets.{entry}
 use Rattle.nest_solver.specs.Plain.{plain}
-use Rattle.nest_solver.specs.Putting.{IsCountedTo, IsPutting}
+use Rattle.nest_solver.specs.Putting.{IsPutting}
 use Rattle.nest_solver.specs.Shape.{IsUpTo}
 use Rattle.nest_solver.specs.Solved.{weight_of}
 use Rattle.nest_solver.proofs.Plains.{tables-nest}
@@ -97,6 +95,6 @@ returns c =
           (tables-nest c.args.net.now c.args.tables.now c.requires.nested c.requires.tables) begun
           (subst
           (λ (k : ℕ). IsPutting s (weight_of s value turns) turns (entry c.args.counts.now) c.args.depth k
-              (entry c.loop-scope.counts)) (let e : c.loop-scope.scope ≡ 0 = omega (arith, c.loop-scope-test.false) in e)
+          (entry c.loop-scope.counts)) (let e : c.loop-scope.scope ≡ 0 = omega (arith, c.loop-scope-test.false) in e)
           (c.loop-scope.invariant.putting value turns path total begun));
     }

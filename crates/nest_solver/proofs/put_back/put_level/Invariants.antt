@@ -13,9 +13,9 @@ invariant-loop-scope l = record {
   deep : 0 < l.scope → entry l.tables.scopes.depths.items l.scope ≡ l.depth;
   putting : (value turns : ℕ → ℕ) (path : List ℕ) (total : ℕ) →
       IsBegun (plain l.net l.tables) value turns path total l.depth (entry l.best) (entry l.choice)
-          (entry l.fn.counts) →
+      (entry l.fn.counts) →
       IsPutting (plain l.net l.tables) (weight_of (plain l.net l.tables) value turns) turns (entry l.fn.counts) l.depth
-          l.scope (entry l.counts);
+      l.scope (entry l.counts);
 }
 
 abbrev pub decreases-loop-scope : goal.decreases-loop-scope
