@@ -49,13 +49,13 @@ total_to-part f zero j h low high = absurd (omega arith)
 total_to-part f (suc n) j h low high =
     elim (cases_eq j (suc n)) as (λ _. f j ≤ℤ total_to (suc n) f) [
       | inl same ↦
-        let rest = total_to-positive f n h in
-        let e : f j ≡ f (suc n) = ap f same in
-        omega (arith, ints)
+          let rest = total_to-positive f n h in
+          let e : f j ≡ f (suc n) = ap f same in
+          omega (arith, ints)
       | inr differ ↦
-        let rest = total_to-part f n j h low (omega (arith, differ)) in
-        let last = h (suc n) in
-        omega (arith, ints)
+          let rest = total_to-part f n j h low (omega (arith, differ)) in
+          let last = h (suc n) in
+          omega (arith, ints)
     ]
 
 total_to-pos : (f : ℕ → ℕ) (n : ℕ) → total_to n (λ q. pos (f q)) ≡ pos (sum_to n f)
@@ -136,7 +136,6 @@ cap-inside net holds arc inside =
 
 module _ (net : Net) (price : ℕ → ℕ) (program : Program) (nested : IsNested net)
     (is : IsProgramOf net price program) (counts : ℕ → ℕ) where
-
   meets-of : All (IsMet counts) (drop 1 program.rows) → MeetsFlow net is.holds counts
   meets-of all =
       meets-flow net is.holds counts
@@ -158,20 +157,20 @@ module _ (net : Net) (price : ℕ → ℕ) (program : Program) (nested : IsNeste
   arc-capped meets j arc there =
       elim (cases_eq arc.from 0) as (λ _. counts j ≤ counts 1 * arc_cap net is.holds (Some arc)) [
         | inl outside ↦
-          let first = nested.entered.only j arc there outside in
-          let cap = cap-outside net is.holds arc outside in
-          let product : counts 1 * arc_cap net is.holds (Some arc) ≡ counts 1 * 1 = ap (λ (n : ℕ). counts 1 * n) cap in
-          omega (arith, ap counts first, product)
+            let first = nested.entered.only j arc there outside in
+            let cap = cap-outside net is.holds arc outside in
+            let product : counts 1 * arc_cap net is.holds (Some arc) ≡ counts 1 * 1 = ap (λ (n : ℕ). counts 1 * n) cap in
+            omega (arith, ap counts first, product)
         | inr inside ↦
-          let within = item_at-all (λ (a : NetArc). IsNumberOrZero net.places a.from) net.arcs j arc
-          nested.numbers.starts there in
-          let taken = taken-out net counts j arc there in
-          let capped = out-capped meets arc.from (record { from_one = omega (arith, inside); within = within }) in
-          let cap = cap-inside net is.holds arc inside in
-          let product : counts 1 * arc_cap net is.holds (Some arc) ≡ counts 1 * turns_at net is.holds arc.from =
-          ap (λ (n : ℕ). counts 1 * n) cap in
-          let most : pos (counts j) ≤ℤ pos (counts 1 * turns_at net is.holds arc.from) = omega (arith, ints, taken, capped) in
-          omega (arith, ints, most, product)
+            let within = item_at-all (λ (a : NetArc). IsNumberOrZero net.places a.from) net.arcs j arc
+            nested.numbers.starts there in
+            let taken = taken-out net counts j arc there in
+            let capped = out-capped meets arc.from (record { from_one = omega (arith, inside); within = within }) in
+            let cap = cap-inside net is.holds arc inside in
+            let product : counts 1 * arc_cap net is.holds (Some arc) ≡ counts 1 * turns_at net is.holds arc.from =
+            ap (λ (n : ℕ). counts 1 * n) cap in
+            let most : pos (counts j) ≤ℤ pos (counts 1 * turns_at net is.holds arc.from) = omega (arith, ints, taken, capped) in
+            omega (arith, ints, most, product)
       ]
 
   cap-column : (column : ℕ) → IsColumn (length net.arcs) column →
@@ -267,14 +266,14 @@ module _ (net : Net) (price : ℕ → ℕ) (program : Program) (nested : IsNeste
       elim (cases_eq arc.from 0) as (λ _. arc_cap net is.holds (Some arc) ≤ crude_limit) [
         | inl outside ↦ let cap = cap-outside net is.holds arc outside in omega (arith, cap)
         | inr inside ↦
-          let number : IsNumberOf net.places arc.from =
-          record { from_one = omega (arith, inside); within = within arc refl } in
-          let part = sum_to-part (λ q. price q * turns_at net is.holds q) (length net.places) arc.from number.from_one
-          number.within in
-          let some : turns_at net is.holds arc.from * 1 ≤ turns_at net is.holds arc.from * price arc.from =
-          mul-le-mul_left (turns_at net is.holds arc.from) (is.costly arc.from number) in
-          let cap = cap-inside net is.holds arc inside in
-          omega (arith, part, some, cap, is.low)
+            let number : IsNumberOf net.places arc.from =
+            record { from_one = omega (arith, inside); within = within arc refl } in
+            let part = sum_to-part (λ q. price q * turns_at net is.holds q) (length net.places) arc.from number.from_one
+            number.within in
+            let some : turns_at net is.holds arc.from * 1 ≤ turns_at net is.holds arc.from * price arc.from =
+            mul-le-mul_left (turns_at net is.holds arc.from) (is.costly arc.from number) in
+            let cap = cap-inside net is.holds arc inside in
+            omega (arith, part, some, cap, is.low)
       ]
 
   -- They fit 63 bits.

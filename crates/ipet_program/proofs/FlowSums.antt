@@ -96,8 +96,8 @@ pick places mark none zero x high =
     total_to-none (λ q. mark q *ℤ (one_if (0 == q) *ℤ x)) places
     (λ q low up. pick-test mark 0 x q (λ e. omega (arith, low, e)))
     ∙ (
-      let e : mark 0 *ℤ x ≡ pos 0 *ℤ x = ap (λ (z : ℤ). z *ℤ x) none in
-      omega (arith, ints)
+    let e : mark 0 *ℤ x ≡ pos 0 *ℤ x = ap (λ (z : ℤ). z *ℤ x) none in
+    omega (arith, ints)
     )
 pick places mark none (suc v) x high =
     total_to-one (λ q. mark q *ℤ (one_if (suc v == q) *ℤ x)) places (suc v) (omega arith) high

@@ -107,8 +107,8 @@ lesser : (denom value sum : ℤ) (bound : ℕ) → pos 1 ≤ℤ denom → (denom
 lesser denom value sum bound one most right =
     by_lt_z (pos bound) value
     (λ above. absurd (
-      let h = mul-order denom (pos (bound + 1)) value (omega (arith, ints)) (omega (arith, ints)) in
-      omega (arith, ints)
+    let h = mul-order denom (pos (bound + 1)) value (omega (arith, ints)) (omega (arith, ints)) in
+    omega (arith, ints)
     ))
     (λ below. below)
 

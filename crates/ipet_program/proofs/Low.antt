@@ -51,14 +51,14 @@ in_at net rank scope limit place inner chains (Some inst) e =
                   | inl holds ↦ elim (cases_lt (rank inst.header) limit)
                       as (λ _. InLow net rank scope limit place ⊎ ((low : InLow net rank scope limit place) → low.inner ≡ inner → ⊥)) [
                         | inl low ↦ inl (record {
-                            inner = inner;
-                            inst = inst;
-                            there = e;
-                            within = within;
-                            apart = apart;
-                            holds = holds;
-                            low = low;
-                          })
+                          inner = inner;
+                          inst = inst;
+                          there = e;
+                          within = within;
+                          apart = apart;
+                          holds = holds;
+                          low = low;
+                        })
                         | inr high ↦ inr (λ low same.
                             let one : low.inst ≡ inst = item_at-same net.loops inner low.inst inst
                             (subst (λ (n : ℕ). item_at n net.loops ≡ Some low.inst) same low.there) e in
@@ -81,9 +81,9 @@ in_upto net rank scope limit place chains (suc n) =
           as (λ _. InLow net rank scope limit place ⊎ ((low : InLow net rank scope limit place) → low.inner ≤ suc n → ⊥)) [
             | inl low ↦ inl low
             | inr other ↦ inr (λ low small. elim (cases_eq low.inner (suc n)) as (λ _. ⊥) [
-                | inl same ↦ other low same
-                | inr differ ↦ less low (omega (arith, small, differ))
-              ])
+              | inl same ↦ other low same
+              | inr differ ↦ less low (omega (arith, small, differ))
+            ])
           ]
     ]
 
@@ -109,9 +109,9 @@ low-decided net rank scope limit place chains =
                 as (λ _. IsLow net rank scope limit place ⊎ (IsLow net rank scope limit place → ⊥)) [
                   | inl inside ↦ inl (record { held = held; low = inr inside })
                   | inr none ↦ inr (λ low. elim low.low as (λ _. ⊥) [
-                      | inl below ↦ omega (arith, above, below)
-                      | inr inside ↦ none inside
-                    ])
+                    | inl below ↦ omega (arith, above, below)
+                    | inr inside ↦ none inside
+                  ])
                 ]
           ]
     ]
@@ -137,25 +137,25 @@ low-arc net nested scope limit number arc there from to held low free forward =
     elim low.low as (λ _. ⊥) [
       | inl below ↦ free (record { held = held; low = inl (omega (arith, rises, below)) })
       | inr inside ↦ elim (holds-decided net inside.inner arc.from nested.scopes.chains) as (λ _. ⊥) [
-          | inl both ↦ free (record {
-              held = held;
-              low = inr (record {
-                inner = inside.inner;
-                inst = inside.inst;
-                there = inside.there;
-                within = inside.within;
-                apart = inside.apart;
-                holds = both;
-                low = inside.low;
-              });
-            })
-          | inr apart ↦
+        | inl both ↦ free (record {
+          held = held;
+          low = inr (record {
+            inner = inside.inner;
+            inst = inside.inst;
+            there = inside.there;
+            within = inside.within;
+            apart = inside.apart;
+            holds = both;
+            low = inside.low;
+          });
+        })
+        | inr apart ↦
             let header = nested.entering number inside.inner arc inside.inst there inside.there inside.holds apart in
             free (record {
               held = held;
               low = inl (omega (arith, rises, inside.low, ap rank header));
             })
-        ]
+      ]
     ]
 
 -- A back arc to a low place comes from a low one, but for one to the scope's own header.
@@ -168,19 +168,19 @@ low-back net nested scope limit arc back held low free =
     elim (cases_eq back.scope scope) as (λ _. back.scope ≡ scope) [
       | inl same ↦ same
       | inr apart ↦ absurd (elim low.low as (λ _. ⊥) [
-          | inl below ↦ free (record {
-              held = held;
-              low = inr (record {
-                inner = back.scope;
-                inst = back.inst;
-                there = back.there;
-                within = within;
-                apart = apart;
-                holds = back.held;
-                low = omega (arith, below, ap rank back.header);
-              });
-            })
-          | inr inside ↦
+        | inl below ↦ free (record {
+          held = held;
+          low = inr (record {
+            inner = back.scope;
+            inst = back.inst;
+            there = back.there;
+            within = within;
+            apart = apart;
+            holds = back.held;
+            low = omega (arith, below, ap rank back.header);
+          });
+        })
+        | inr inside ↦
             let around = back-scope net nested inside.inner arc.to back.scope back.inst back.there back.header inside.holds in
             free (record {
               held = held;
@@ -194,5 +194,5 @@ low-back net nested scope limit arc back held low free =
                 low = inside.low;
               });
             })
-        ])
+      ])
     ]

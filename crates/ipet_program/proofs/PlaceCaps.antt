@@ -38,8 +38,8 @@ out-none net nested j differ (Some arc) there =
     elim (cases_eq arc.from 0) as (λ _. one_if (arc.from == 0) ≡ pos 0) [
       | inl outside ↦ absurd (differ (nested.entered.only j arc there outside))
       | inr inside ↦
-        let e : (arc.from == 0) ≡ false = grind (arith, nat_tests) in
-        ap one_if e
+          let e : (arc.from == 0) ≡ false = grind (arith, nat_tests) in
+          ap one_if e
     ]
 
 pub flow-start : (net : Net) (nested : IsNested net) (counts : ℕ → ℕ) →
@@ -120,7 +120,6 @@ combine x f e bound start outer turns one two three four =
 
 module _ (net : Net) (nested : IsNested net) (holds : ℕ → ℕ → Bool) (told : TellsHeld net holds)
     (counts : ℕ → ℕ) (meets : MeetsFlow net holds counts) where
-
   run-holds : (number : ℕ) → 0 < number → number ≤ length net.places → Holds net 0 number
   run-holds number low high =
       let d : Place = record { context = 0; address = 0; scope = 0 } in
@@ -150,9 +149,9 @@ module _ (net : Net) (nested : IsNested net) (holds : ℕ → ℕ → Bool) (tol
       elim (cases_eq number inst.header)
       as (λ _. flow net counts (into net number) ≤ℤ flow net counts (into net inst.header)) [
         | inl same ↦
-          let e : flow net counts (into net number) ≡ flow net counts (into net inst.header) =
-          ap (λ (n : ℕ). flow net counts (into net n)) same in
-          omega (arith, ints)
+            let e : flow net counts (into net number) ≡ flow net counts (into net inst.header) =
+            ap (λ (n : ℕ). flow net counts (into net n)) same in
+            omega (arith, ints)
         | inr differ ↦ loop-flow net nested holds counts meets place.scope inst at number (into net number)
             (high-place net nested number place there) differ
             (forward-into net nested number place there
@@ -191,38 +190,38 @@ module _ (net : Net) (nested : IsNested net) (holds : ℕ → ℕ → Bool) (tol
       as (λ _. flow net counts (into net number) ≤ℤ pos (counts 1 * turns_at net holds number)) [
         | inl outermost ↦ run-cap number place there outermost
         | inr inside ↦
-          let inst : LoopInst = get_or net.loops (place.scope - 1) none in
-          let within = item_at-all (λ (p : Place). IsNumberOrZero net.loops p.scope) net.places number place
-          nested.scopes.places there in
-          let at : item_at place.scope net.loops ≡ Some inst =
-          item_at-there net.loops place.scope none (record { from_one = omega (arith, inside); within = within }) in
-          let falls = nested.scopes.chains.falls place.scope inst at in
-          let first = into-header number place there inst at in
-          let bounded = header-bound net holds counts meets place.scope inst at in
-          elim (cases_eq inst.outer 0)
-          as (λ _. flow net counts (into net number) ≤ℤ pos (counts 1 * turns_at net holds number)) [
-            | inl last ↦ combine (flow net counts (into net number)) (flow net counts (into net inst.header))
-                (flow net counts (enter net holds place.scope inst)) inst.bound (counts 1) 1
-                (turns_at net holds number) first bounded (enter-run place.scope inst at last)
-                (turns-outermost net nested holds told number place there inst at)
-            | inr more ↦
-              let outer : LoopInst = get_or net.loops (inst.outer - 1) none in
-              let high = item_at-all (λ (i : LoopInst). IsNumberOrZero net.loops i.outer) net.loops place.scope inst
-              nested.scopes.loops at in
-              let next : item_at inst.outer net.loops ≡ Some outer =
-              item_at-there net.loops inst.outer none (record { from_one = omega (arith, more); within = high }) in
-              let header = nested.held inst.outer outer next in
-              let same : header.place.scope ≡ inst.outer =
-              header-scope net nested inst.outer outer header.place next header.there in
-              let entered = enter-loop place.scope inst at outer next in
-              let beyond = place-cap n outer.header header.place header.there
-              (omega (arith, falls, deep, ap nested.scopes.chains.depth same)) in
-              combine (flow net counts (into net number)) (flow net counts (into net inst.header))
-              (flow net counts (enter net holds place.scope inst)) inst.bound (counts 1)
-              (turns_at net holds outer.header) (turns_at net holds number) first bounded
-              (omega (arith, ints, entered, beyond))
-              (turns-inside net nested holds told number place there inst at outer next)
-          ]
+            let inst : LoopInst = get_or net.loops (place.scope - 1) none in
+            let within = item_at-all (λ (p : Place). IsNumberOrZero net.loops p.scope) net.places number place
+            nested.scopes.places there in
+            let at : item_at place.scope net.loops ≡ Some inst =
+            item_at-there net.loops place.scope none (record { from_one = omega (arith, inside); within = within }) in
+            let falls = nested.scopes.chains.falls place.scope inst at in
+            let first = into-header number place there inst at in
+            let bounded = header-bound net holds counts meets place.scope inst at in
+            elim (cases_eq inst.outer 0)
+            as (λ _. flow net counts (into net number) ≤ℤ pos (counts 1 * turns_at net holds number)) [
+              | inl last ↦ combine (flow net counts (into net number)) (flow net counts (into net inst.header))
+                  (flow net counts (enter net holds place.scope inst)) inst.bound (counts 1) 1
+                  (turns_at net holds number) first bounded (enter-run place.scope inst at last)
+                  (turns-outermost net nested holds told number place there inst at)
+              | inr more ↦
+                  let outer : LoopInst = get_or net.loops (inst.outer - 1) none in
+                  let high = item_at-all (λ (i : LoopInst). IsNumberOrZero net.loops i.outer) net.loops place.scope inst
+                  nested.scopes.loops at in
+                  let next : item_at inst.outer net.loops ≡ Some outer =
+                  item_at-there net.loops inst.outer none (record { from_one = omega (arith, more); within = high }) in
+                  let header = nested.held inst.outer outer next in
+                  let same : header.place.scope ≡ inst.outer =
+                  header-scope net nested inst.outer outer header.place next header.there in
+                  let entered = enter-loop place.scope inst at outer next in
+                  let beyond = place-cap n outer.header header.place header.there
+                  (omega (arith, falls, deep, ap nested.scopes.chains.depth same)) in
+                  combine (flow net counts (into net number)) (flow net counts (into net inst.header))
+                  (flow net counts (enter net holds place.scope inst)) inst.bound (counts 1)
+                  (turns_at net holds outer.header) (turns_at net holds number) first bounded
+                  (omega (arith, ints, entered, beyond))
+                  (turns-inside net nested holds told number place there inst at outer next)
+            ]
       ]
 
   -- What comes to a place.

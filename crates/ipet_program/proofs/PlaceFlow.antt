@@ -46,9 +46,9 @@ within-both loops chains one other w v =
     elim (within-depth loops chains one other w) as (λ _. one ≡ other) [
       | inl same ↦ sym same
       | inr less ↦ elim (within-depth loops chains other one v) as (λ _. one ≡ other) [
-          | inl same ↦ same
-          | inr more ↦ absurd (omega (arith, less, more))
-        ]
+        | inl same ↦ same
+        | inr more ↦ absurd (omega (arith, less, more))
+      ]
     ]
 
 -- A place in its innermost scope.
@@ -74,13 +74,13 @@ high-header net nested scope inst there =
           (holds-place net low.inner inst.header held.place held.there low.holds) in
           elim (within-cases net.loops low.inner scope around) as (λ _. ⊥) [
             | inl same ↦
-              let one : low.inst ≡ inst = item_at-same net.loops scope low.inst inst
-              (subst (λ (n : ℕ). item_at n net.loops ≡ Some low.inst) (sym same) low.there) there in
-              omega (arith, low.low, ap (λ (i : LoopInst). nested.ranks.rank i.header) one)
+                let one : low.inst ≡ inst = item_at-same net.loops scope low.inst inst
+                (subst (λ (n : ℕ). item_at n net.loops ≡ Some low.inst) (sym same) low.there) there in
+                omega (arith, low.low, ap (λ (i : LoopInst). nested.ranks.rank i.header) one)
             | inr below ↦
-              let one : below.inst ≡ inst = item_at-same net.loops scope below.inst inst below.there there in
-              low.apart (within-both net.loops nested.scopes.chains low.inner inst.outer
-              (subst (λ (i : LoopInst). IsWithin net.loops low.inner i.outer) one below.within) low.within)
+                let one : below.inst ≡ inst = item_at-same net.loops scope below.inst inst below.there there in
+                low.apart (within-both net.loops nested.scopes.chains low.inner inst.outer
+                (subst (λ (i : LoopInst). IsWithin net.loops low.inner i.outer) one below.within) low.within)
           ];
     }
 
@@ -104,15 +104,15 @@ forward-into net nested number place there plain =
     as (λ _. (into net number j ≡ pos 0)
     ⊎ ((into net number j ≡ pos 1) × (arc.to ≡ number) × (IsBack net arc → ⊥))) [
       | inl same ↦
-        let e : (arc.to == number) ≡ true = grind (arith, nat_tests) in
-        inr (
-          ap (λ (found : Option NetArc). one_if (comes_to number found)) at ∙ ap one_if e,
-          same,
-          not-back net nested number place there plain arc same,
-        )
+          let e : (arc.to == number) ≡ true = grind (arith, nat_tests) in
+          inr (
+            ap (λ (found : Option NetArc). one_if (comes_to number found)) at ∙ ap one_if e,
+            same,
+            not-back net nested number place there plain arc same,
+          )
       | inr differ ↦
-        let e : (arc.to == number) ≡ false = grind (arith, nat_tests) in
-        inl (ap (λ (found : Option NetArc). one_if (comes_to number found)) at ∙ ap one_if e)
+          let e : (arc.to == number) ≡ false = grind (arith, nat_tests) in
+          inl (ap (λ (found : Option NetArc). one_if (comes_to number found)) at ∙ ap one_if e)
     ]
 
 -- The arcs that enter a loop.
@@ -127,16 +127,16 @@ enter-cases header to inside =
     as (λ _. (one_if ((to == header) && not inside) ≡ pos 0)
     ⊎ ((one_if ((to == header) && not inside) ≡ pos 1) × (to ≡ header) × (inside ≡ false))) [
       | inr differ ↦
-        let e : (to == header) ≡ false = grind (arith, nat_tests) in
-        inl (ap (λ (test : Bool). one_if (test && not inside)) e)
+          let e : (to == header) ≡ false = grind (arith, nat_tests) in
+          inl (ap (λ (test : Bool). one_if (test && not inside)) e)
       | inl same ↦
-        let e : (to == header) ≡ true = grind (arith, nat_tests) in
-        elim inside
-        as (λ (b : Bool). (one_if ((to == header) && not b) ≡ pos 0)
-        ⊎ ((one_if ((to == header) && not b) ≡ pos 1) × (to ≡ header) × (b ≡ false))) [
-          | true ↦ inl (ap (λ (test : Bool). one_if (test && not true)) e)
-          | false ↦ inr (ap (λ (test : Bool). one_if (test && not false)) e, same, refl)
-        ]
+          let e : (to == header) ≡ true = grind (arith, nat_tests) in
+          elim inside
+          as (λ (b : Bool). (one_if ((to == header) && not b) ≡ pos 0)
+          ⊎ ((one_if ((to == header) && not b) ≡ pos 1) × (to ≡ header) × (b ≡ false))) [
+            | true ↦ inl (ap (λ (test : Bool). one_if (test && not true)) e)
+            | false ↦ inr (ap (λ (test : Bool). one_if (test && not false)) e, same, refl)
+          ]
     ]
 
 true-false : (b : Bool) → b ≡ true → b ≡ false → ⊥

@@ -148,26 +148,26 @@ loop-along net holds told scope inst from left (number ∷ numbers) to chain kee
     elim (keeps-first net scope inst from left arc.to onward goes)
     as (λ _. along (loop_factor net.arcs (holds scope) inst) (number ∷ numbers) ≤ℤ pos left) [
       | inl past ↦
-        let rest = loop-along net holds told scope inst arc.to left numbers to chain.3 past.rest in
-        let none = factor-elsewhere inst.header inst.bound arc.to (held arc.from) past.elsewhere in
-        omega (arith, ints)
+          let rest = loop-along net holds told scope inst arc.to left numbers to chain.3 past.rest in
+          let none = factor-elsewhere inst.header inst.bound arc.to (held arc.from) past.elsewhere in
+          omega (arith, ints)
       | inr (inl into) ↦
-        let rest = loop-along net holds told scope inst arc.to into.turns numbers to chain.3 into.rest in
-        let factor = factor-header inst.header inst.bound arc.to (held arc.from) into.header in
-        let outside : held arc.from ≡ false =
-        not-held (held arc.from) (λ e. into.outside (subst (Holds net scope) chain.2 ((told scope arc.from).0 e))) in
-        let entered : pos inst.bound *ℤ one_if (not (held arc.from)) ≡ pos inst.bound *ℤ pos 1 =
-        ap (λ (test : Bool). pos inst.bound *ℤ one_if (not test)) outside in
-        let many = into.bound in
-        omega (arith, ints)
+          let rest = loop-along net holds told scope inst arc.to into.turns numbers to chain.3 into.rest in
+          let factor = factor-header inst.header inst.bound arc.to (held arc.from) into.header in
+          let outside : held arc.from ≡ false =
+          not-held (held arc.from) (λ e. into.outside (subst (Holds net scope) chain.2 ((told scope arc.from).0 e))) in
+          let entered : pos inst.bound *ℤ one_if (not (held arc.from)) ≡ pos inst.bound *ℤ pos 1 =
+          ap (λ (test : Bool). pos inst.bound *ℤ one_if (not test)) outside in
+          let many = into.bound in
+          omega (arith, ints)
       | inr (inr back) ↦
-        let rest = loop-along net holds told scope inst arc.to back.fewer numbers to chain.3 back.rest in
-        let factor = factor-header inst.header inst.bound arc.to (held arc.from) back.header in
-        let inside : held arc.from ≡ true = (told scope arc.from).1 (subst (Holds net scope) (sym chain.2) back.inside) in
-        let entered : pos inst.bound *ℤ one_if (not (held arc.from)) ≡ pos inst.bound *ℤ pos 0 =
-        ap (λ (test : Bool). pos inst.bound *ℤ one_if (not test)) inside in
-        let many = back.turns in
-        omega (arith, ints)
+          let rest = loop-along net holds told scope inst arc.to back.fewer numbers to chain.3 back.rest in
+          let factor = factor-header inst.header inst.bound arc.to (held arc.from) back.header in
+          let inside : held arc.from ≡ true = (told scope arc.from).1 (subst (Holds net scope) (sym chain.2) back.inside) in
+          let entered : pos inst.bound *ℤ one_if (not (held arc.from)) ≡ pos inst.bound *ℤ pos 0 =
+          ap (λ (test : Bool). pos inst.bound *ℤ one_if (not test)) inside in
+          let many = back.turns in
+          omega (arith, ints)
     ]
 
 -- A row that is written by its factors, with the counts of a run.

@@ -90,7 +90,6 @@ forward-low net nested scope place j arc there held same forward from =
 -- ---- In a loop instance.
 module _ (net : Net) (nested : IsNested net) (holds : ℕ → ℕ → Bool) (counts : ℕ → ℕ)
     (meets : MeetsFlow net holds counts) (scope : ℕ) (inst : LoopInst) (at : item_at scope net.loops ≡ Some inst) where
-
   to-header : (limit j : ℕ) (arc : NetArc) → item_at j net.arcs ≡ Some arc →
       IsLow net nested.ranks.rank scope limit arc.to →
       (IsLow net nested.ranks.rank scope limit arc.from → ⊥) → arc.to ≡ inst.header
@@ -98,15 +97,15 @@ module _ (net : Net) (nested : IsNested net) (holds : ℕ → ℕ → Bool) (cou
       elim (holds-decided net scope arc.from nested.scopes.chains) as (λ _. arc.to ≡ inst.header) [
         | inr outside ↦ nested.entering j scope arc inst there at low.held outside
         | inl inside ↦ elim (cases_eq arc.to inst.header) as (λ _. arc.to ≡ inst.header) [
-            | inl same ↦ same
-            | inr differ ↦ absurd (low-arc net nested scope limit j arc there (positive net scope arc.from inside)
-                (positive net scope arc.to low.held) inside low free
-                (λ back.
-                let own = low-back net nested scope limit arc back inside low free in
-                let one : back.inst ≡ inst = item_at-same net.loops scope back.inst inst
-                (subst (λ (n : ℕ). item_at n net.loops ≡ Some back.inst) own back.there) at in
-                differ (back.header ∙ ap (λ (i : LoopInst). i.header) one)))
-          ]
+          | inl same ↦ same
+          | inr differ ↦ absurd (low-arc net nested scope limit j arc there (positive net scope arc.from inside)
+              (positive net scope arc.to low.held) inside low free
+              (λ back.
+              let own = low-back net nested scope limit arc back inside low free in
+              let one : back.inst ≡ inst = item_at-same net.loops scope back.inst inst
+              (subst (λ (n : ℕ). item_at n net.loops ≡ Some back.inst) own back.there) at in
+              differ (back.header ∙ ap (λ (i : LoopInst). i.header) one)))
+        ]
       ]
 
   into-one : (j : ℕ) (arc : NetArc) → item_at j net.arcs ≡ Some arc → arc.to ≡ inst.header →
@@ -147,7 +146,6 @@ module _ (net : Net) (nested : IsNested net) (holds : ℕ → ℕ → Bool) (cou
 -- ---- In the run.
 module _ (net : Net) (nested : IsNested net) (holds : ℕ → ℕ → Bool) (counts : ℕ → ℕ)
     (meets : MeetsFlow net holds counts) where
-
   from-zero : (limit j : ℕ) (arc : NetArc) → item_at j net.arcs ≡ Some arc → (held : (place : ℕ) → 0 < place →
       place ≤ length net.places → Holds net 0 place) → arc.from ≤ length net.places →
       IsLow net nested.ranks.rank 0 limit arc.to →
@@ -156,12 +154,12 @@ module _ (net : Net) (nested : IsNested net) (holds : ℕ → ℕ → Bool) (cou
       elim (cases_eq arc.from 0) as (λ _. arc.from ≡ 0) [
         | inl same ↦ same
         | inr differ ↦
-          let inside = held arc.from (omega (arith, differ)) within in
-          absurd (low-arc net nested 0 limit j arc there (omega (arith, differ)) (positive net 0 arc.to low.held) inside
-          low free
-          (λ back.
-          let own = low-back net nested 0 limit arc back inside low free in
-          none-some back.inst (subst (λ (n : ℕ). item_at n net.loops ≡ Some back.inst) own back.there)))
+            let inside = held arc.from (omega (arith, differ)) within in
+            absurd (low-arc net nested 0 limit j arc there (omega (arith, differ)) (positive net 0 arc.to low.held) inside
+            low free
+            (λ back.
+            let own = low-back net nested 0 limit arc back inside low free in
+            none-some back.inst (subst (λ (n : ℕ). item_at n net.loops ≡ Some back.inst) own back.there)))
       ]
 
   out-one : (j : ℕ) (arc : NetArc) → item_at j net.arcs ≡ Some arc → arc.from ≡ 0 → out_of net 0 j ≡ pos 1

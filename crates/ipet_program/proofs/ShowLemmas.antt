@@ -45,7 +45,6 @@ fits-none program old zeros long column low high = zeros (column - 1) (omega ari
 
 module _ (program : Program) (cuts : List Side2) (bound : ℕ) (leaf : Leaf) (old : List ℤ) (zeros : AreZero old)
     (long : program.columns ≤ length old) (checkable : IsCheckable program) where
-
   -- The rows of a valid leaf may be taken.
   pub may-of_leaf : IsLeaf program cuts bound leaf → MayTakeAll program cuts old (pos 0) leaf.weights
   may-of_leaf valid =
@@ -59,7 +58,6 @@ module _ (program : Program) (cuts : List Side2) (bound : ℕ) (leaf : Leaf) (ol
       }
 
   module _ (sums : List ℤ) (side : ℤ) (taken : AreTaken program cuts old sums (pos 0) leaf.weights side) where
-
     leaf_by : (empty : Bool) → leaf.empty ≡ empty → pos 1 ≤ℤ leaf.denom →
         Shows empty program (all_rows program cuts) bound leaf → FitsBound empty program bound leaf →
         IsLeaf program cuts bound leaf

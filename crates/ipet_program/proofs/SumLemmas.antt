@@ -117,17 +117,17 @@ term-sum sums times term value less from is column low =
       | inl same ↦ subst (λ (c : ℕ). sum_in (slice_set sums (term.column - 1) value) c
           ≡ sum_in sums c +ℤ total (terms_parts c times (term ∷ []))) (sym same)
           (
-            let read = get_or-set_same sums (term.column - 1) value (pos 0) less in
-            let parts : total (terms_parts term.column times (term ∷ [])) ≡ times *ℤ term.factor +ℤ pos 0 =
-            ap total (own-parts times term) in
-            omega (arith, ints)
+          let read = get_or-set_same sums (term.column - 1) value (pos 0) less in
+          let parts : total (terms_parts term.column times (term ∷ [])) ≡ times *ℤ term.factor +ℤ pos 0 =
+          ap total (own-parts times term) in
+          omega (arith, ints)
           )
       | inr differ ↦
-        let read = get_or-set_other sums (term.column - 1) (column - 1) value (pos 0)
-        (λ e. differ (omega (arith, e))) in
-        let parts : total (terms_parts column times (term ∷ [])) ≡ pos 0 =
-        ap total (other-parts times term column differ) in
-        omega (arith, ints)
+          let read = get_or-set_other sums (term.column - 1) (column - 1) value (pos 0)
+          (λ e. differ (omega (arith, e))) in
+          let parts : total (terms_parts column times (term ∷ [])) ≡ pos 0 =
+          ap total (other-parts times term column differ) in
+          omega (arith, ints)
     ]
 
 pub term-added : (columns : ℕ) (sums : List ℤ) (times : ℤ) (term : Term) (value : ℤ) → columns ≤ length sums →

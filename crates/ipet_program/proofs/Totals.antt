@@ -57,11 +57,11 @@ total_to-one f zero column low high h = absurd (omega arith)
 total_to-one f (suc n) column low high h =
     elim (cases_eq (suc n) column) as (λ _. total_to (suc n) f ≡ f column) [
       | inl e ↦
-        let rest = total_to-none f n (λ j from to. h j (λ same. omega (arith, e, same))) in
-        let last : f (suc n) ≡ f column = ap f e in
-        omega (arith, ints)
+          let rest = total_to-none f n (λ j from to. h j (λ same. omega (arith, e, same))) in
+          let last : f (suc n) ≡ f column = ap f e in
+          omega (arith, ints)
       | inr differ ↦
-        let rest = total_to-one f n column low (omega (arith, differ)) h in
-        let last = h (suc n) differ in
-        omega (arith, ints)
+          let rest = total_to-one f n column low (omega (arith, differ)) h in
+          let last = h (suc n) differ in
+          omega (arith, ints)
     ]

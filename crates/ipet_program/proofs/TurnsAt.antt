@@ -34,19 +34,19 @@ product-step zero f g at b low high h is one = absurd (omega arith)
 product-step (suc n) f g at b low high h is one =
     elim (cases_eq at (suc n)) as (λ _. b * product_to (suc n) g ≤ product_to (suc n) f) [
       | inl same ↦
-        let rest = product-order n g f (λ k from to. h k (λ e. omega (arith, to, e, same))) in
-        let last : g (suc n) ≡ 1 = ap g (sym same) ∙ one in
-        let first : f (suc n) ≡ b = ap f (sym same) ∙ is in
-        let order : b * product_to n g ≤ b * product_to n f = mul-le-mul_left b rest in
-        let left : product_to n g * g (suc n) ≡ product_to n g * 1 = ap (λ (m : ℕ). product_to n g * m) last in
-        let right : product_to n f * f (suc n) ≡ product_to n f * b = ap (λ (m : ℕ). product_to n f * m) first in
-        let whole : b * (product_to n g * g (suc n)) ≡ b * (product_to n g * 1) = ap (λ (m : ℕ). b * m) left in
-        omega (arith, order, right, whole)
+          let rest = product-order n g f (λ k from to. h k (λ e. omega (arith, to, e, same))) in
+          let last : g (suc n) ≡ 1 = ap g (sym same) ∙ one in
+          let first : f (suc n) ≡ b = ap f (sym same) ∙ is in
+          let order : b * product_to n g ≤ b * product_to n f = mul-le-mul_left b rest in
+          let left : product_to n g * g (suc n) ≡ product_to n g * 1 = ap (λ (m : ℕ). product_to n g * m) last in
+          let right : product_to n f * f (suc n) ≡ product_to n f * b = ap (λ (m : ℕ). product_to n f * m) first in
+          let whole : b * (product_to n g * g (suc n)) ≡ b * (product_to n g * 1) = ap (λ (m : ℕ). b * m) left in
+          omega (arith, order, right, whole)
       | inr differ ↦
-        let rest = product-step n f g at b low (omega (arith, differ)) h is one in
-        let last = h (suc n) (λ e. differ (sym e)) in
-        let both = mul-le (b * product_to n g) (product_to n f) (g (suc n)) (f (suc n)) rest last in
-        omega (arith, both)
+          let rest = product-step n f g at b low (omega (arith, differ)) h is one in
+          let last = h (suc n) (λ e. differ (sym e)) in
+          let both = mul-le (b * product_to n g) (product_to n f) (g (suc n)) (f (suc n)) rest last in
+          omega (arith, both)
     ]
 
 -- The factor of a scope at a place.

@@ -108,7 +108,13 @@ fn add_cut(sums: &mut [i128], columns: u32, right: i128, times: i128, cut: Side2
 }
 
 /// Adds the row of a weight, as `add_row` does; nothing where no row has its number.
-fn add_weight(program: &Program, cuts: &[Side2], weight: Weight, sums: &mut [i128], right: i128) -> Option<i128>
+fn add_weight(
+    program: &Program,
+    cuts: &[Side2],
+    weight: Weight,
+    sums: &mut [i128],
+    right: i128,
+) -> Option<i128>
     requires { program.now.columns ≤ length sums.old }
     ensures some { IfSome result (IsWeightTaken program.now cuts.now sums.old sums.new right weight) }
     ensures none { IfNone result (MayTakeWeight program.now cuts.now sums.old right weight → ⊥) }
@@ -119,17 +125,34 @@ fn add_weight(program: &Program, cuts: &[Side2], weight: Weight, sums: &mut [i12
     let rows = program.rows.as_slice();
     let position = weight.row - 1;
     if position < rows.len() as u64 {
-        return add_row(sums, program.columns, right, weight.times, &rows[position as usize]);
+        return add_row(
+            sums,
+            program.columns,
+            right,
+            weight.times,
+            &rows[position as usize],
+        );
     }
     let behind = position - rows.len() as u64;
     if behind < cuts.len() as u64 {
-        return add_cut(sums, program.columns, right, weight.times, cuts[behind as usize]);
+        return add_cut(
+            sums,
+            program.columns,
+            right,
+            weight.times,
+            cuts[behind as usize],
+        );
     }
     None
 }
 
 /// Adds the rows of weights, in their order, from no right side on.
-pub fn add_weights(program: &Program, cuts: &[Side2], weights: &[Weight], sums: &mut [i128]) -> Option<i128>
+pub fn add_weights(
+    program: &Program,
+    cuts: &[Side2],
+    weights: &[Weight],
+    sums: &mut [i128],
+) -> Option<i128>
     requires { program.now.columns ≤ length sums.old }
     ensures some { IfSome result (AreTaken program.now cuts.now sums.old sums.new (pos 0) weights.now) }
     ensures none { IfNone result (MayTakeAll program.now cuts.now sums.old (pos 0) weights.now → ⊥) }

@@ -9,13 +9,28 @@ use std::test::Fail;
 use wcet_io::List;
 
 /// A row of two terms, in columns 1 and 2.
-fn row_of(alloc: Global, equal: bool, first: i64, second: i64, right: i64) -> Result<Row, AllocError>
+fn row_of(
+    alloc: Global,
+    equal: bool,
+    first: i64,
+    second: i64,
+    right: i64,
+) -> Result<Row, AllocError>
     requires first { unsigned_abs first ≤ 8 }
     requires second { unsigned_abs second ≤ 8 }
     requires right { unsigned_abs right ≤ 8 }
     ensures { IfOk result (IsSmallRow 2) }
 {
-    let terms = vec![in alloc; Term { column: 1, factor: first }, Term { column: 2, factor: second }]?;
+    let terms = vec![in alloc;
+        Term {
+            column: 1,
+            factor: first
+        },
+        Term {
+            column: 2,
+            factor: second
+        },
+    ]?;
     Ok(Row {
         equal,
         terms: List::from_vec(terms),
@@ -150,12 +165,39 @@ fn leaves_show_that_there_are_no_counts(rt: HostRuntime) -> Result<(), Fail> {
 fn counts_have_a_value(rt: HostRuntime) -> Result<(), Fail> {
     let alloc = rt.alloc();
     let program = program(alloc)?;
-    let once = [Count { column: 1, number: 1 }, Count { column: 2, number: 1 }];
+    let once = [
+        Count {
+            column: 1,
+            number: 1,
+        },
+        Count {
+            column: 2,
+            number: 1,
+        },
+    ];
     assert!(rt; are_counts(&program, &once, 5));
     assert!(rt; !are_counts(&program, &once, 4));
     // A row with = is broken, then one with <= too, then a column isn't there.
-    assert!(rt; !are_counts(&program, &[Count { column: 1, number: 1 }], 5));
+    assert!(rt;
+        !are_counts(
+            &program,
+            &[Count {
+                column: 1,
+                number: 1
+            }],
+            5
+        )
+    );
     assert!(rt; !are_counts(&program, &[], 0));
-    assert!(rt; !are_counts(&program, &[Count { column: 3, number: 1 }], 0));
+    assert!(rt;
+        !are_counts(
+            &program,
+            &[Count {
+                column: 3,
+                number: 1
+            }],
+            0
+        )
+    );
     Ok(())
 }

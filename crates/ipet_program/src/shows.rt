@@ -91,7 +91,13 @@ fn show_none(columns: u32, sums: &[i128], right: i128) -> bool
 /// Whether a leaf is valid under the cuts above it. `sums` is room for a number for each column; what it
 /// holds before doesn't matter. It takes no memory, and a step for each term of the rows that the leaf
 /// takes and for each place of `sums`.
-pub fn shows_leaf(program: &Program, cuts: &[Side2], bound: u64, leaf: &Leaf, sums: &mut [i128]) -> bool
+pub fn shows_leaf(
+    program: &Program,
+    cuts: &[Side2],
+    bound: u64,
+    leaf: &Leaf,
+    sums: &mut [i128],
+) -> bool
     requires checkable { IsCheckable program.now }
     requires room { program.now.columns ≤ length sums.old }
     ensures valid { OnTrue result (IsLeaf program.now cuts.now bound leaf.now) }

@@ -38,12 +38,12 @@ linked-stands : (image : Image) (address : ℕ) (content : Content) (unit : Code
 linked-stands image address (Fault kind place) unit e = cc
 linked-stands image address (Stands other) unit e =
     by_tests (needs_target other.instr && is_none (targets_at image address)) (links_elsewhere other.instr) e where
-  by_tests : (b c : Bool) →
-      (if b then Fault UnknownTarget address else if c then Fault LinkRegister address else Stands other) ≡ Stands unit →
-      Stands other ≡ Stands unit
-  by_tests true c e = cc
-  by_tests false true e = cc
-  by_tests false false e = e
+      by_tests : (b c : Bool) →
+          (if b then Fault UnknownTarget address else if c then Fault LinkRegister address else Stands other) ≡ Stands unit →
+          Stands other ≡ Stands unit
+      by_tests true c e = cc
+      by_tests false true e = cc
+      by_tests false false e = e
 
 pub unit-content : (image : Image) (address : ℕ) (unit : CodeUnit) → unit_at image address ≡ Stands unit → content_at image address ≡ Stands unit
 unit-content image address unit stands = linked-stands image address (content_at image address) unit stands

@@ -5,7 +5,7 @@ use Rattle.ipet_program.proofs.counts.value_by.Given as goal
 
 abbrev pub invariant-loop-value : goal.invariant-loop-value
 invariant-loop-value l = record {
-    at : l.column ≡ l.value-index + 1;
-    is : l.sum ≡ value_from 1 (listed l.counts) (take l.value-index l.values);
-    small : unsigned_abs l.sum ≤ l.value-index * 2 ^ 97;
+  at : l.column ≡ l.value-index + 1;
+  is : l.sum ≡ value_from 1 (listed l.counts) (take l.value-index l.values);
+  small : unsigned_abs l.sum ≤ l.value-index * 2 ^ 97;
 }
