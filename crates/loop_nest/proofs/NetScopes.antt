@@ -91,31 +91,31 @@ body-within image entry net is ranked outer o at zero inner h low own body = abs
 body-within image entry net is ranked outer o at (suc n) inner h low own body =
     by_case (same_or_other o h)
     (λ k less round held. body-within image entry net is ranked outer o at n own.inst.outer k less round held) where
-  one : IsInstance image entry net own.inst
-  one = instance-at image entry net is inner own.inst own.there
+      one : IsInstance image entry net own.inst
+      one = instance-at image entry net is inner own.inst own.there
 
-  same : one.header ≡ h
-  same = loop-header net inner one.header h (loop-of image entry net is inner own.inst own.there) own
+      same : one.header ≡ h
+      same = loop-header net inner one.header h (loop-of image entry net is inner own.inst own.there) own
 
-  by_outer : IsOuterOf image entry net one.header own.inst.outer → (o ≡ h → ⊥) →
-      ((k : ℕ) → ranked.ranks.rank k < n → IsLoopAt net own.inst.outer k → IsInBody image entry o k → IsWithin net.loops outer own.inst.outer) →
-      IsWithin net.loops outer inner
-  by_outer (inl (zero_outer, none)) differ onward =
-      absurd (none o (λ e. differ (e ∙ same)) (subst (IsInBody image entry o) (sym same) body))
-  by_outer (inr (k, round, next)) differ onward =
-      let around : IsInBody image entry k h = subst (IsInBody image entry k) same next.around in
-      let held : IsInBody image entry o k = next.inner o (λ e. differ (e ∙ same)) (subst (IsInBody image entry o) (sym same) body) in
-      let less : ranked.ranks.rank k < ranked.ranks.rank h =
-      inner-rank image entry ranked.ranks ranked.told k h around (λ e. next.other (e ∙ sym same)) in
-      out inner own.inst own.there (onward k (omega (arith, low, less)) round held)
+      by_outer : IsOuterOf image entry net one.header own.inst.outer → (o ≡ h → ⊥) →
+          ((k : ℕ) → ranked.ranks.rank k < n → IsLoopAt net own.inst.outer k → IsInBody image entry o k → IsWithin net.loops outer own.inst.outer) →
+          IsWithin net.loops outer inner
+      by_outer (inl (zero_outer, none)) differ onward =
+          absurd (none o (λ e. differ (e ∙ same)) (subst (IsInBody image entry o) (sym same) body))
+      by_outer (inr (k, round, next)) differ onward =
+          let around : IsInBody image entry k h = subst (IsInBody image entry k) same next.around in
+          let held : IsInBody image entry o k = next.inner o (λ e. differ (e ∙ same)) (subst (IsInBody image entry o) (sym same) body) in
+          let less : ranked.ranks.rank k < ranked.ranks.rank h =
+          inner-rank image entry ranked.ranks ranked.told k h around (λ e. next.other (e ∙ sym same)) in
+          out inner own.inst own.there (onward k (omega (arith, low, less)) round held)
 
-  by_case : ((o ≡ h) ⊎ (o ≡ h → ⊥)) →
-      ((k : ℕ) → ranked.ranks.rank k < n → IsLoopAt net own.inst.outer k → IsInBody image entry o k → IsWithin net.loops outer own.inst.outer) →
-      IsWithin net.loops outer inner
-  by_case (inl equal) onward =
-      let one_scope : outer ≡ inner = loop-once image entry net is outer inner h (subst (IsLoopAt net outer) equal at) own in
-      subst (IsWithin net.loops outer) one_scope here
-  by_case (inr differ) onward = by_outer one.outer differ onward
+      by_case : ((o ≡ h) ⊎ (o ≡ h → ⊥)) →
+          ((k : ℕ) → ranked.ranks.rank k < n → IsLoopAt net own.inst.outer k → IsInBody image entry o k → IsWithin net.loops outer own.inst.outer) →
+          IsWithin net.loops outer inner
+      by_case (inl equal) onward =
+          let one_scope : outer ≡ inner = loop-once image entry net is outer inner h (subst (IsLoopAt net outer) equal at) own in
+          subst (IsWithin net.loops outer) one_scope here
+      by_case (inr differ) onward = by_outer one.outer differ onward
 
 -- What lies in the body of a loop is held by its instance.
 pub body-holds : (image : Image) (entry : ℕ) (net : Net) → IsNet image entry net → IsRanked image entry → (scope number o a : ℕ) →

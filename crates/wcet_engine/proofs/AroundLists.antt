@@ -1,10 +1,9 @@
 -- The numbers of the innermost loops, as they are written one after the other.
-use Rattle.std.proofs.Common.{◌≡◌, ℕ, zero, suc, ◌+◌, ◌<◌, ◌≤◌, ◌⊎◌, inl, inr, List, [], ◌∷◌, ◌++◌, length, map, take, get_or, set, replicate, slice_get, All, AllPairs, Contains, Option, Some, refl, sym, ap, subst, ◌∙◌, arith, add-one}
-use Rattle.std.specs.Prelude.{option_map}
-use Rattle.std.proofs.lemmas.Bool.{cases_eq, cases_lt}
+use Rattle.std.proofs.Common.{◌≡◌, ℕ, ◌+◌, ◌<◌, ◌≤◌, ◌⊎◌, inl, inr, List, [], ◌∷◌, length, take, get_or, set, replicate, slice_get, AllPairs, Contains, Some, sym, ap, subst, ◌∙◌, arith}
+use Rattle.std.proofs.lemmas.Bool.{cases_eq}
 use Rattle.std.proofs.lemmas.List.{get_or-take, length-replicate, length-set, length-take-le, take_all, take_more}
 use Rattle.std.proofs.lemmas.List.Elements.{All-contains, Contains-append_left, Contains-get_or, Contains-push, Contains-push_cases}
-use Rattle.std.proofs.lemmas.Option.{get_or_from_slice_get, same_Some, slice_get-get_or, slice_get-map, slice_get_within}
+use Rattle.std.proofs.lemmas.Option.{get_or_from_slice_get, same_Some, slice_get-get_or}
 use Rattle.elf_mips.specs.declared.image.Image.{Image}
 use Rattle.loop_nest.specs.Nests.{IsLoop, IsNest}
 use Rattle.loop_nest.specs.declared.nest.Loop.{Loop}
@@ -13,7 +12,7 @@ use Rattle.loop_nest.proofs.NestLaws.{among}
 use Rattle.step_table.proofs.Seen.{slice_get-set_other, slice_get-set_same, slice_get-replicate}
 use Rattle.net_model.specs.Loops.{IsInBody}
 use Rattle.unit_graph.specs.declared.reached.Reached.{Reached}
-use Rattle.wcet_engine.specs.Around.{AreNearest, AreNearing, IsInner, IsNearestBy, IsRound}
+use Rattle.wcet_engine.specs.Around.{AreNearest, AreNearing, IsInner, IsNearestBy}
 use Rattle.wcet_engine.specs.Rows.{addresses_of}
 use Rattle.wcet_engine.specs.Table.{IsAt}
 use Rattle.wcet_engine.specs.Unbuilt.{AreFollowed}

@@ -1,9 +1,8 @@
 -- What the certificate of a net says of the entry function.
-use Rattle.std.proofs.Common.{◌≡◌, ℕ, ◌+◌, ◌*◌, ◌^◌, ◌<◌, ◌≤◌, List, length, get_or, All, Result, Ok, Err, IfOk, IfErr, refl, subst, arith}
+use Rattle.std.proofs.Common.{ℕ, get_or, Result, Ok, Err, IfOk, IfErr, refl}
 use Rattle.cache_config.specs.declared.profile.Profile.{Profile}
 use Rattle.elf_mips.specs.declared.image.Image.{Image}
 use Rattle.flow_net.specs.declared.net.Net.{Net}
-use Rattle.flow_net.specs.declared.net.Place.{Place}
 use Rattle.ipet_program.specs.Programs.{FitsImage}
 use Rattle.ipet_program.specs.declared.certificate.Certificate.{Certificate}
 use Rattle.net_model.specs.Faults.{HasNoFault}

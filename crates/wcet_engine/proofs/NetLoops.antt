@@ -1,12 +1,11 @@
 -- The loop instances and the scopes of a function's net, from the numbers of the innermost loops.
-use Rattle.std.proofs.Common.{◌≡◌, ℕ, zero, suc, ◌+◌, ◌<◌, ◌≤◌, ◌⊎◌, inl, inr, List, [], ◌∷◌, length, map, get_or, slice_get, All, AllPairs, Contains, Option, Some, None, refl, sym, ap, subst, ◌∙◌, arith, add-one}
+use Rattle.std.proofs.Common.{◌≡◌, ℕ, zero, suc, ◌+◌, ◌<◌, inl, inr, List, [], length, map, get_or, slice_get, All, Option, Some, None, refl, sym, ap, subst, ◌∙◌, arith}
 use Rattle.std.specs.Prelude.{option_map}
 use Rattle.std.proofs.lemmas.Option.{get_or_from_slice_get, none-some, same_Some, slice_get-get_or, slice_get-map, slice_get_within}
 use Rattle.elf_mips.specs.declared.image.Image.{Image}
-use Rattle.flow_net.specs.Numbers.{item_at}
 use Rattle.flow_net.specs.declared.net.LoopInst.{LoopInst}
 use Rattle.flow_net.specs.declared.net.Net.{Net}
-use Rattle.loop_nest.specs.Nests.{IsLoop, IsNest}
+use Rattle.loop_nest.specs.Nests.{IsNest}
 use Rattle.loop_nest.specs.declared.nest.Loop.{Loop}
 use Rattle.loop_nest.proofs.Dominance.{body-header, same_or_other}
 use Rattle.step_table.proofs.Positions.{place_of}
@@ -15,7 +14,6 @@ use Rattle.net_model.specs.Net.{HasLoops, IsInstance, IsLoopAt, IsOuterOf, IsPla
 use Rattle.unit_graph.specs.Contents.{Rise}
 use Rattle.unit_graph.specs.declared.reached.Reached.{Reached}
 use Rattle.wcet_engine.specs.Around.{AreInstances, IsInstanceOf, IsNearestBy, IsNoHeader, IsRound, IsScopeBy}
-use Rattle.wcet_engine.specs.Table.{IsAt}
 use Rattle.wcet_engine.proofs.AroundLaws.{body-of, loop-at}
 use Rattle.wcet_engine.proofs.Positions.{later_place}
 
@@ -77,22 +75,29 @@ round-of image entry loops nest header address differ body at = record {
 -- The innermost loop round a unit is the next scope outward.
 pub outer-laid : (image : Image) (entry : ℕ) (net : Net) (reached : List Reached) (loops : List Loop) → IsLaid image entry net reached loops →
     (address number : ℕ) → IsNearestBy loops (length loops) address number → IsOuterOf image entry net address number
-outer-laid image entry net reached loops laid address zero near = inl (refl, λ other differ body.
-    let at = loop-position image entry loops laid.nest other (body-header image entry other address body) in
-    near at.position (slice_get_within loops at.position at.one at.there) (round-of image entry loops laid.nest other address differ body at))
+outer-laid image entry net reached loops laid address zero near = inl (
+  refl,
+  λ other differ body.
+      let at = loop-position image entry loops laid.nest other (body-header image entry other address body) in
+      near at.position (slice_get_within loops at.position at.one at.there) (round-of image entry loops laid.nest other address differ body at),
+)
 outer-laid image entry net reached loops laid address (suc place) near =
     let round = near.round in
     let is = loop-at image entry loops laid.nest place round.one round.there in
-    inr (round.one.header, loop-laid image entry net reached loops laid place round.one round.there, record {
-      around = body-of image entry round.one is address round.held;
-      other = round.other;
-      inner = λ another differ body.
-          let at = loop-position image entry loops laid.nest another (body-header image entry another address body) in
-          let held = near.inner at.position (slice_get_within loops at.position at.one at.there)
-          (round-of image entry loops laid.nest another address differ body at) in
-          subst (λ (h : ℕ). IsInBody image entry h round.one.header) at.same
-          (body-of image entry at.one (loop-at image entry loops laid.nest at.position at.one at.there) round.one.header held);
-    })
+    inr (
+      round.one.header,
+      loop-laid image entry net reached loops laid place round.one round.there,
+      record {
+        around = body-of image entry round.one is address round.held;
+        other = round.other;
+        inner = λ another differ body.
+            let at = loop-position image entry loops laid.nest another (body-header image entry another address body) in
+            let held = near.inner at.position (slice_get_within loops at.position at.one at.there)
+            (round-of image entry loops laid.nest another address differ body at) in
+            subst (λ (h : ℕ). IsInBody image entry h round.one.header) at.same
+            (body-of image entry at.one (loop-at image entry loops laid.nest at.position at.one at.there) round.one.header held);
+      },
+    )
 
 -- A header's scope is its own loop, any other unit's the innermost one round it.
 no-header : (image : Image) (entry : ℕ) (loops : List Loop) → IsNest image entry loops → (address : ℕ) → IsNoHeader loops (length loops) address →
@@ -103,18 +108,25 @@ no-header image entry loops nest address none headed =
 
 around-scope : (image : Image) (entry : ℕ) (net : Net) (address number : ℕ) → (IsHeader image entry address → ⊥) →
     IsOuterOf image entry net address number → IsScopeOf image entry net address number
-around-scope image entry net address number none (inl (zero_scope, nobody)) = inl (zero_scope, λ header body.
-    elim (same_or_other header address) [
-      | inl same ↦ none (subst (IsHeader image entry) same (body-header image entry header address body))
-      | inr differ ↦ nobody header differ body
-    ])
-around-scope image entry net address number none (inr (k, at, next)) = inr (k, at, record {
-  held = next.around;
-  inner = λ other body. elim (same_or_other other address) [
-    | inl same ↦ absurd (none (subst (IsHeader image entry) same (body-header image entry other address body)))
-    | inr differ ↦ next.inner other differ body
-  ];
-})
+around-scope image entry net address number none (inl (zero_scope, nobody)) = inl (
+  zero_scope,
+  λ header body.
+      elim (same_or_other header address) [
+        | inl same ↦ none (subst (IsHeader image entry) same (body-header image entry header address body))
+        | inr differ ↦ nobody header differ body
+      ],
+)
+around-scope image entry net address number none (inr (k, at, next)) = inr (
+  k,
+  at,
+  record {
+    held = next.around;
+    inner = λ other body. elim (same_or_other other address) [
+      | inl same ↦ absurd (none (subst (IsHeader image entry) same (body-header image entry other address body)))
+      | inr differ ↦ next.inner other differ body
+    ];
+  },
+)
 
 pub scope-laid : (image : Image) (entry : ℕ) (net : Net) (reached : List Reached) (loops : List Loop) → IsLaid image entry net reached loops →
     (address number : ℕ) → IsScopeBy loops (length loops) address number → IsScopeOf image entry net address number

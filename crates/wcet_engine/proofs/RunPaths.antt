@@ -1,5 +1,5 @@
 -- The units of a run that the sentence speaks of are the places of a path of the net.
-use Rattle.std.proofs.Common.{◌≡◌, ℕ, zero, suc, ◌+◌, ◌<◌, ◌≤◌, ◌⊎◌, ◌==◌, ◌&&◌, ◌||◌, inl, inr, Bool, true, false, List, [], ◌∷◌, ◌++◌, All, Contains, Option, Some, None, refl, ap, sym, subst, ◌∙◌, arith}
+use Rattle.std.proofs.Common.{◌≡◌, ℕ, ◌+◌, ◌<◌, ◌≤◌, ◌==◌, ◌&&◌, ◌||◌, inl, inr, Bool, true, false, List, [], ◌∷◌, ◌++◌, All, Contains, Option, None, refl, ap, sym, subst, ◌∙◌, arith}
 use Rattle.std.specs.Prelude.{find}
 use Rattle.std.proofs.lemmas.Bool.Decides.{nat_tests}
 use Rattle.std.proofs.lemmas.List.Sums.{sum_by-cons}
@@ -16,7 +16,7 @@ use Rattle.mips_decode.specs.Transfer.{Call, Linking, Straight, Returns}
 use Rattle.mips_decode.specs.Step.{Stepped, value_step}
 use Rattle.mips_decode.specs.Run.{HasReturned, IsRun}
 use Rattle.mips_decode.specs.Calls.{GoesBack, ReturnsToCaller, ReturnsToCallers, calls_after, calls_after_link}
-use Rattle.cache_config.specs.Instructions.{Costs, costs_of}
+use Rattle.cache_config.specs.Instructions.{costs_of}
 use Rattle.cache_config.specs.declared.profile.Profile.{Profile}
 use Rattle.mips_machine.specs.Run.{run_cost, step_cost}
 use Rattle.net_model.specs.declared.unit.CodeUnit.{CodeUnit}

@@ -1,16 +1,15 @@
 -- The instances of loops and the scopes of units, as they are written one after the other.
-use Rattle.std.proofs.Common.{◌≡◌, ℕ, zero, suc, ◌+◌, ◌<◌, ◌≤◌, ◌⊎◌, inl, inr, List, [], ◌∷◌, ◌++◌, length, get_or, set, slice_get, Option, Some, refl, sym, ap, subst, ◌∙◌, arith, add-one}
+use Rattle.std.proofs.Common.{◌≡◌, ℕ, zero, suc, ◌+◌, ◌<◌, ◌≤◌, ◌⊎◌, inl, inr, List, [], ◌∷◌, ◌++◌, length, set, slice_get, Some, sym, ap, subst, ◌∙◌, arith, add-one}
 use Rattle.std.proofs.lemmas.Bool.{cases_eq, cases_lt}
 use Rattle.std.proofs.lemmas.List.{length-set, length_push}
-use Rattle.std.proofs.lemmas.Option.{same_Some, slice_get_within}
+use Rattle.std.proofs.lemmas.Option.{same_Some}
 use Rattle.flow_net.specs.declared.net.LoopInst.{LoopInst}
-use Rattle.flow_net.specs.declared.net.Place.{Place}
 use Rattle.loop_nest.specs.declared.nest.Loop.{Loop}
 use Rattle.step_table.proofs.Places.{place_cases}
 use Rattle.step_table.proofs.Seen.{slice_get-set_other, slice_get-set_same}
 use Rattle.unit_graph.specs.Contents.{Rise}
 use Rattle.unit_graph.specs.declared.reached.Reached.{Reached}
-use Rattle.wcet_engine.specs.Around.{AreInstances, AreNearest, AreScopes, IsInstanceOf, IsNearestBy, IsNoHeader, IsOwn, IsScopeBy}
+use Rattle.wcet_engine.specs.Around.{AreInstances, AreNearest, AreScopes, IsInstanceOf, IsNearestBy, IsOwn, IsScopeBy}
 use Rattle.wcet_engine.specs.Table.{IsAt}
 use Rattle.wcet_engine.proofs.Positions.{same_place}
 

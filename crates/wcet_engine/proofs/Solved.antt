@@ -1,5 +1,5 @@
 -- The certificate of a leaf that shows the greatest value, and of counts that have it.
-use Rattle.std.proofs.Common.{◌≡◌, ℕ, ◌≤◌, List, [], ◌∷◌, All, pos, ℤ, ◌≤ℤ◌, refl, sym, ap, subst, ◌∙◌, arith}
+use Rattle.std.proofs.Common.{◌≡◌, ℕ, ◌≤◌, List, [], ◌∷◌, All, pos, sym, ap, subst, ◌∙◌, arith}
 use Rattle.std.proofs.lemmas.Int.{ints}
 use Rattle.std.proofs.lemmas.List.Elements.{All-nil}
 use Rattle.ipet_program.specs.Certificates.{AreValid, IsValid}
@@ -16,7 +16,7 @@ use Rattle.ipet_program.specs.declared.program.Program.{Program}
 use Rattle.flow_net.specs.Nested.{IsNested}
 use Rattle.flow_net.specs.declared.net.Net.{Net}
 use Rattle.ipet_program.proofs.Caps.{feasible-crude}
-use Rattle.ipet_program.proofs.LeafLaw.{MeetsCuts, leaf-bound}
+use Rattle.ipet_program.proofs.LeafLaw.{leaf-bound}
 use Rattle.nest_solver.specs.Answers.{AreGreatest, ShowsGreatest}
 
 -- The greatest value is the leaf's bound.

@@ -1,5 +1,5 @@
 -- What each stage of an analysis tells of a file.
-use Rattle.std.proofs.Common.{◌≡◌, ℕ, ◌<◌, ◌≤◌, ◌*◌, true, false, cond, List, [], ◌∷◌, length, Option, Some, refl, sym, ap, subst, ◌∙◌, arith}
+use Rattle.std.proofs.Common.{◌≡◌, ℕ, ◌<◌, ◌*◌, true, false, cond, List, length, sym, ap, subst, ◌∙◌, arith}
 use Rattle.std.specs.Prelude.{Bool}
 use Rattle.cache_config.specs.declared.profile.Profile.{Profile}
 use Rattle.elf_mips.specs.declared.image.Image.{Image}
@@ -13,25 +13,18 @@ use Rattle.ipet_program.specs.Scopes.{TellsHeld, bound_of}
 use Rattle.ipet_program.specs.Sums.{product_to, sum_to}
 use Rattle.ipet_program.specs.declared.certificate.Certificate.{Certificate}
 use Rattle.ipet_program.proofs.CertificateLaw.{certificate-bound}
-use Rattle.loop_nest.specs.Nests.{IsNest}
-use Rattle.loop_nest.specs.declared.nest.Loop.{Loop}
 use Rattle.loop_nest.proofs.NetOnce.{loops-same, places-same}
-use Rattle.net_model.specs.declared.unit.Content.TheVariants.{Unit as Stands}
-use Rattle.net_model.specs.Units.{content_at}
-use Rattle.net_model.specs.Onward.{returns}
-use Rattle.net_model.specs.Reached.{IsReached}
 use Rattle.net_model.specs.Faults.{HasNoFault as HasNoCodeFault}
-use Rattle.net_model.specs.Net.{IsNet, Returns}
+use Rattle.net_model.specs.Net.{Returns}
 use Rattle.wcet_engine.specs.declared.analysis.Refused.{Refused}
 use Rattle.wcet_engine.specs.declared.analysis.Refused.TheVariants.{Fault, Memory}
-use Rattle.wcet_engine.specs.Code.{Certifies, IsCertified, TellsCode, TellsNoReturn, TellsTooLarge, TellsUnbuilt}
+use Rattle.wcet_engine.specs.Code.{IsCertified, TellsCode, TellsNoReturn, TellsTooLarge, TellsUnbuilt}
 use Rattle.wcet_engine.specs.Faults.{HasNoReturn, IsAnalysis, IsPlainTooLarge, IsTooLarge, TellsFault}
 use Rattle.wcet_engine.specs.Sentence.{IsPlain}
-use Rattle.wcet_engine.specs.Unbuilt.{IsLeft, IsUnbuiltAt}
+use Rattle.wcet_engine.specs.Unbuilt.{IsUnbuiltAt}
 use Rattle.wcet_engine.proofs.FaultLemmas.{HasNoFault-free, IsFirstFault-code, IsFirstFault-large, IsFirstFault-never, IsFirstFault-unbuilt, IsFreeBelow, free-whole}
 use Rattle.wcet_engine.proofs.NetBound.{Bounds-net}
 use Rattle.wcet_engine.proofs.PlainCosts.{same-price}
-use Rattle.wcet_engine.proofs.RunPaths.{IsFollowed}
 
 pub tells-unbuilt : (file : List ℕ) (image : Image) (told : Refused) → IsFreeBelow file image 9 →
     TellsUnbuilt image told → TellsFault file told

@@ -1,9 +1,8 @@
 -- What was told of an answer is what was written for its file.
-use Rattle.std.proofs.Common.{◌≡◌, ℕ, ◌⊎◌, inl, inr, List, Option, sym, subst}
+use Rattle.std.proofs.Common.{ℕ, inl, inr, List, Option, sym, subst}
 use Rattle.wcet_engine.specs.declared.answer.Answer.{Answer}
 use Rattle.wcet_engine.specs.declared.answer.Answer.TheVariants as answer
 use Rattle.wcet_engine.specs.declared.top.Status.{Status}
-use Rattle.wcet_engine.specs.declared.top.Status.TheVariants.{Done, Refused, WriteFault, Memory}
 use Rattle.wcet_engine.specs.Answers.{IsAnswer}
 use Rattle.wcet_engine.specs.Outcomes.{Told, Wrote}
 

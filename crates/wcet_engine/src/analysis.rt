@@ -2,8 +2,8 @@
 
 ghost use Rattle.std.specs.Prelude.{◌≡◌, ◌≤◌, length, IfOk, IfErr};
 
-use crate::clash::clash_place;
 use crate::certificate::certify;
+use crate::clash::clash_place;
 use crate::code::{check_return, followed_code, loops_of};
 use crate::refusal::{Refusal, RefusalKind};
 use cache_config::Profile;

@@ -62,11 +62,7 @@ fn note_body(reached: &[Reached], loops: &[Loop], position: usize, around: &mut 
 ///
 /// Each unit is looked up once for each loop that holds it, in time in proportion to the logarithm of the
 /// units.
-pub fn around_of(
-    alloc: Global,
-    reached: &[Reached],
-    loops: &[Loop],
-) -> Result<Vec<u32>, AllocError>
+pub fn around_of(alloc: Global, reached: &[Reached], loops: &[Loop]) -> Result<Vec<u32>, AllocError>
     requires function { AreOfFunction reached.now loops.now }
     requires few { length reached.now < 2 ^ 31 }
     requires few_loops { length loops.now < 2 ^ 31 }

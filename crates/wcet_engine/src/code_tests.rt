@@ -61,7 +61,11 @@ fn bounds_a_chain_of_diamonds(rt: HostRuntime) -> Result<(), Fail> {
     words[36] = RETURN;
     let got = line_of(alloc, &words)?;
     assert_eq!(rt; got.0, Status::Done);
-    assert!(rt; got.1.as_slice().starts_with(b"bound 418\nreached 418\n".as_slice()));
+    assert!(rt;
+        got.1
+            .as_slice()
+            .starts_with(b"bound 418\nreached 418\n".as_slice())
+    );
     Ok(())
 }
 

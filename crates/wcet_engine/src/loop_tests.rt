@@ -9,11 +9,7 @@ use std::test::Fail;
 
 /// An executable of one segment of flags 5 that holds these words, entered at its first one, with these
 /// records in a section `.wcet`.
-pub fn file_with(
-    alloc: Global,
-    words: &[u32],
-    records: &[[u32; 4]],
-) -> Result<Vec<u8>, AllocError>
+pub fn file_with(alloc: Global, words: &[u32], records: &[[u32; 4]]) -> Result<Vec<u8>, AllocError>
     requires words { length words.now ≤ 64 }
     requires records { length records.now ≤ 64 }
 {
@@ -139,9 +135,11 @@ fn bounds_nested_loops(rt: HostRuntime) -> Result<(), Fail> {
     ];
     let got = analysed(alloc, &file_with(alloc, &NESTED, &records)?)?;
     assert_eq!(rt; got.0, Status::Done);
-    assert!(rt; got.1.as_slice().starts_with(
-        b"bound 1078\nreached 1078\nvalue 1 1\nvalue 2 2\nvalue 3 6\nvalue 4 24\nvalue 5 18\n".as_slice()
-    ));
+    assert!(rt;
+        got.1.as_slice().starts_with(
+            b"bound 1078\nreached 1078\nvalue 1 1\nvalue 2 2\nvalue 3 6\nvalue 4 24\nvalue 5 18\n".as_slice()
+        )
+    );
     Ok(())
 }
 

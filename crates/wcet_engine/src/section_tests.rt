@@ -21,7 +21,11 @@ fn refuses_changed_sections(rt: HostRuntime) -> Result<(), Fail> {
     // From where on, to what, and the line.
     let rows: [(usize, &[u8], &str); 7] = [
         // The record is of another kind, or at an address where no unit of the loop stands.
-        (0x6F, &[2, 0, 0x40, 0, 4, 0, 0, 0, 4], "refused no-bound 00400004\n"),
+        (
+            0x6F,
+            &[2, 0, 0x40, 0, 4, 0, 0, 0, 4],
+            "refused no-bound 00400004\n",
+        ),
         (0x6F, &[9], "refused bad-record 0000006C\n"),
         (0x77, &[0], "refused bad-record 0000006C\n"),
         (0xCC, &[15], "refused bad-section 000000B5\n"),

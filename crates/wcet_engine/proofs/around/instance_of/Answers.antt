@@ -1,5 +1,5 @@
 -- The header is reached, and what lies round it is known.
-use Rattle.std.proofs.Common.{ℕ, length, get_or, Contains, refl, subst, arith}
+use Rattle.std.proofs.Common.{ℕ, length, get_or, refl, subst, arith}
 use Rattle.std.proofs.lemmas.Option.{slice_get_within, slice_get-get_or}
 use Rattle.wcet_engine.specs.Around.{IsNearestBy}
 use Rattle.wcet_engine.proofs.AroundLists.{header-among}

@@ -1,8 +1,7 @@
 -- Each unit of the body is noted in its turn.
 use Rattle.std.proofs.Common.{◌≡◌, ℕ, ◌<◌, ◌≤◌, ◌+◌, List, length, take, get_or, set, slice_get, Contains, Some, refl, sym, subst, arith}
 use Rattle.std.proofs.lemmas.List.Elements.{Contains-get_or}
-use Rattle.std.proofs.lemmas.Option.{slice_get_read, slice_get_within, slice_get-get_or}
-use Rattle.loop_nest.specs.declared.nest.Loop.{Loop}
+use Rattle.std.proofs.lemmas.Option.{slice_get_read, slice_get_within}
 use Rattle.wcet_engine.specs.Around.{AreNearing}
 use Rattle.wcet_engine.specs.Rows.{addresses_of}
 use Rattle.wcet_engine.specs.Table.{IsAt}

@@ -1,5 +1,5 @@
 -- One header more has its own loop.
-use Rattle.std.proofs.Common.{ℕ, length, get_or, Contains, refl, arith}
+use Rattle.std.proofs.Common.{get_or, arith}
 use Rattle.std.proofs.lemmas.List.Elements.{Contains-get_or}
 use Rattle.std.proofs.lemmas.Option.{slice_get_within, slice_get-get_or}
 use Rattle.wcet_engine.proofs.AroundLists.{header-among}

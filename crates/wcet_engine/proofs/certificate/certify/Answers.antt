@@ -1,6 +1,5 @@
 -- The net of the code, and what its certificate says.
-use Rattle.std.proofs.Common.{◌+◌, ◌*◌, ◌<◌, ◌≤◌, ◌^◌, length, rules, arith, sym, subst, List}
-use Rattle.net_model.specs.Net.{IsNet}
+use Rattle.std.proofs.Common.{◌+◌, ◌*◌, ◌≤◌, length, rules, arith, subst, List}
 use Rattle.loop_nest.proofs.NestLaws.{nest-ranked}
 use Rattle.loop_nest.proofs.NestedNet.{net-nested}
 use Rattle.wcet_engine.proofs.Certified.{certified, fits-image, too-large}

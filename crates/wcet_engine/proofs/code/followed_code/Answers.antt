@@ -1,5 +1,5 @@
 -- The first unit that isn't followed, or the code of those that are.
-use Rattle.std.proofs.Common.{◌≡◌, ℕ, List, Some, refl, sym, ap, subst, ◌∙◌}
+use Rattle.std.proofs.Common.{List, refl, sym, ap, subst, ◌∙◌}
 use Rattle.std.specs.Prelude.{find, option_map}
 use Rattle.unit_graph.specs.declared.reached.Reached.{Reached}
 use Rattle.wcet_engine.specs.Table.{IsTable}
