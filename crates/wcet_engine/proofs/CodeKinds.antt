@@ -9,6 +9,7 @@ use Rattle.mips_decode.specs.Records.{needs_target}
 use Rattle.mips_decode.specs.Step.{Fetched, Found, Missing, fetched}
 use Rattle.net_model.specs.declared.unit.CodeKind.{CodeKind}
 use Rattle.net_model.specs.declared.unit.CodeKind.TheVariants as code
+use Rattle.net_model.specs.declared.unit.Content.{Content}
 use Rattle.net_model.specs.declared.unit.Content.TheVariants.{Unit as Stands, Fault}
 use Rattle.net_model.specs.Faults.{HasNoFault, IsFirstFault, Offends, faulty, recursive, rank as code_rank}
 use Rattle.net_model.specs.Targets.{is_none, linked_content, links_elsewhere, targets_at}

@@ -10,7 +10,9 @@ use Rattle.net_model.specs.declared.unit.Content.TheVariants.{Unit as Stands, Fa
 use Rattle.net_model.specs.Onward.{returns}
 use Rattle.net_model.specs.Reached.{IsReached}
 use Rattle.net_model.specs.Units.{content_at}
-use Rattle.net_model.proofs.Followed.{unit-content}
+use Rattle.net_model.specs.Net.{Returns}
+use Rattle.net_model.proofs.Followed.{return-unit, unit-content}
+use Rattle.net_model.proofs.Plain.{plain-reached}
 use Rattle.unit_graph.specs.Contents.{AreReached, Rise}
 use Rattle.unit_graph.specs.declared.reached.Reached.{Reached}
 use Rattle.wcet_engine.specs.Arcs.{leaves}
@@ -143,6 +145,24 @@ none-left image entry reached are none place unbuilt =
     sym left ∙ found-none (λ (r : Reached). content_left r.content) reached
     (unmapped (find (λ (r : Reached). content_left r.content) reached) none) k other there in
     cc
+
+-- A reached unit that returns.
+returns-by : (image : Image) (entry address : ℕ) (content : Content) → IsReached image entry address → content_at image address ≡ content →
+    leaves content ≡ true → Returns image entry
+returns-by image entry address (Stands unit) reached same leaving = record {
+  address = address;
+  unit = unit;
+  reached = plain-reached image entry address reached;
+  stands = return-unit image address unit same leaving;
+  returning = leaving;
+}
+returns-by image entry address (Fault kind place) reached same leaving = absurd cc
+
+pub does-return : (image : Image) (entry : ℕ) (reached : List Reached) (position : ℕ) (one : Reached) → AreReached image entry reached →
+    slice_get reached position ≡ Some one → leaves one.content ≡ true → Returns image entry
+does-return image entry reached position one are there leaving =
+    returns-by image entry one.address one.content (reached-there image entry reached position one are there)
+    (sym (stands-there image entry reached position one are there)) leaving
 
 -- Where no unit returns, no reached unit does.
 returns-content : (content : Content) (unit : CodeUnit) → content ≡ Stands unit → leaves content ≡ false → returns unit ≡ false

@@ -1,5 +1,5 @@
 -- The loops of a program's functions: those of each, and those of the entry, which come first.
-use Rattle.std.proofs.Common.{◌≡◌, ℕ, ◌<◌, ◌⊎◌, inl, inr, List, [], ◌∷◌, length, map, get_or, refl, sym, ap, subst, ◌∙◌, arith}
+use Rattle.std.proofs.Common.{ℕ, ◌<◌, inl, inr, List, [], ◌∷◌, length, map, get_or, subst, arith}
 use Rattle.std.specs.Prelude.{Contains}
 use Rattle.std.specs.List.{AllZip}
 use Rattle.elf_mips.specs.declared.image.Image.{Image}
@@ -20,10 +20,10 @@ nest-in : (image : Image) (graphs : List Graph) (nests : List (List Loop)) (func
 nest-in image [] nests function zip there = absurd (nothing-in function there)
 nest-in image (graph ∷ graphs) [] function zip there = absurd zip
 nest-in image (graph ∷ graphs) (loops ∷ nests) function zip there =
-    by_place (cases-in graph.entry (map (λ (g : Graph). g.entry) graphs) function there) where
-  by_place : (graph.entry ≡ function) ⊎ Contains (map (λ (g : Graph). g.entry) graphs) function → (found : List Loop) × IsNest image function found
-  by_place (inl same) = (loops, subst (λ (f : ℕ). IsNest image f loops) same zip.0)
-  by_place (inr behind) = nest-in image graphs nests function zip.1 behind
+    elim (cases-in graph.entry (map (λ (g : Graph). g.entry) graphs) function there) [
+      | inl same ↦ (loops, subst (λ (f : ℕ). IsNest image f loops) same zip.0)
+      | inr behind ↦ nest-in image graphs nests function zip.1 behind
+    ]
 
 nest-of : (image : Image) (nests : Nests) → AreLoops image nests → (function : ℕ) → IsFunction image image.entry function →
     (loops : List Loop) × IsNest image function loops

@@ -10,7 +10,7 @@ ghost use Rattle.loop_nest.specs.Nests.{IsNest};
 ghost use Rattle.net_model.specs.Faults.{HasNoFault};
 ghost use Rattle.net_model.specs.Net.{Returns};
 ghost use Rattle.elf_mips.specs.declared.image.Image.{Image};
-ghost use Rattle.wcet_engine.specs.Code.{Certifies, IsCertified, IsFollowedCode, TellsLargeNet, TellsTooLarge};
+ghost use Rattle.wcet_engine.specs.Code.{AreLoops, Certifies, IsCertified, IsFollowedCode, TellsLargeNet, TellsTooLarge};
 
 use crate::analysis::Refused;
 use crate::code::Code;
@@ -24,8 +24,6 @@ use loop_nest::{Loop, Nests};
 use nest_solver::{nest_bound, nest_counts};
 use std::alloc::{AllocError, Global};
 use wcet_io::List;
-
-ghost use Rattle.wcet_engine.specs.Code.{AreLoops, Certifies, IsCertified, IsFollowedCode, TellsLargeNet, TellsTooLarge};
 
 /// The loops of a program's first function, which is its entry.
 fn entry_loops(nests: &Nests) -> &[Loop]

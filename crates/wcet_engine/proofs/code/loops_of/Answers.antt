@@ -3,6 +3,11 @@ use Rattle.std.proofs.lemmas.Result.{err_from_is_err_and}
 use Rattle.wcet_engine.proofs.CodeKinds.{loop-tells}
 use Rattle.wcet_engine.proofs.code.loops_of.Goals as goal
 
+pub returns-in_err-graphs-clause-bad : goal.returns-in_err-graphs-clause-bad
+returns-in_err-graphs-clause-bad c =
+    let p = err_from_is_err_and c.from_residual.result c.from_residual.ensures.1 in
+    rw (p.1, p.2) (word-tells c.args.image.now _ c.in_err-graphs.ensures.bad)
+
 pub returns-in_err-nests-clause-bad : goal.returns-in_err-nests-clause-bad
 returns-in_err-nests-clause-bad c =
     let p = err_from_is_err_and c.from_residual-in_err-nests.result c.from_residual-in_err-nests.ensures.1 in
