@@ -1,5 +1,5 @@
 -- One unit more doesn't return, and none does; or one does.
-use Rattle.std.proofs.Common.{◌≡◌, ◌≤◌, false, length, refl, ap, sym, subst, ◌∙◌, List, All, arith}
+use Rattle.std.proofs.Common.{◌≡◌, ◌≤◌, false, length, refl, ap, sym, subst, ◌∙◌, All, arith}
 use Rattle.std.proofs.lemmas.List.{take_all}
 use Rattle.std.proofs.lemmas.List.Elements.{All-more}
 use Rattle.std.proofs.lemmas.Option.{slice_get_read}

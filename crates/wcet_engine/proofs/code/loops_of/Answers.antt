@@ -1,6 +1,6 @@
 -- The first fault of the code, or else of its loops.
 use Rattle.std.proofs.lemmas.Result.{err_from_is_err_and}
-use Rattle.wcet_engine.proofs.CodeKinds.{loop-tells}
+use Rattle.wcet_engine.proofs.CodeKinds.{loop-tells, word-tells}
 use Rattle.wcet_engine.proofs.code.loops_of.Goals as goal
 
 pub returns-in_err-graphs-clause-bad : goal.returns-in_err-graphs-clause-bad
