@@ -12,6 +12,11 @@ use Rattle.std.proofs.lemmas.Option.{none-some}
 use Rattle.loop_nest.specs.Nests.{IsNest}
 use Rattle.loop_nest.specs.declared.nest.Loop.{Loop}
 use Rattle.loop_nest.proofs.Dominance.{header-reached}
+use Rattle.flow_net.specs.declared.net.LoopInst.{LoopInst}
+use Rattle.flow_net.specs.declared.net.Net.{Net}
+use Rattle.flow_net.specs.declared.net.Place.{Place}
+use Rattle.net_model.specs.Net.{IsNet}
+use Rattle.loop_nest.proofs.NetItems.{item-positive, item-within}
 use Rattle.loop_nest.proofs.NetOnce.{keys-rise}
 use Rattle.loop_nest.proofs.Ordered.{cases-in, first-in, later-in, nothing-in, pairs-head, pairs-tail}
 use Rattle.elf_mips.specs.declared.image.Image.{Image}
@@ -277,16 +282,57 @@ words-few (segment ∷ more) addresses rise aligned held =
     let sizes : total_size (segment ∷ more) ≡ segment.size + total_size more = sum_by-cons (λ (s : Segment). s.size) segment more in
     omega (arith, first, rest, split, sizes)
 
--- A function without a fault reaches at most 2 ^ 24 units: each has a word of its own, and segments have 2 ^ 26 bytes at most.
+-- As many addresses that a function without a fault reaches: each has a word of its own, and segments have 2 ^ 26 bytes at most.
+addresses-few : (image : Image) (entry : ℕ) (addresses : List ℕ) → AllPairs (λ (a b : ℕ). a < b) addresses → All (IsReached image entry) addresses →
+    HasNoFault image entry → length addresses ≤ 2 ^ 24
+addresses-few image entry addresses rise sound faultless =
+    let units : All (λ (a : ℕ). (unit : CodeUnit) × (content_at image a ≡ Stands unit)) addresses =
+    λ k d inside. stands-at image entry (get_or addresses k d) faultless (sound k d inside) (content_at image (get_or addresses k d)) refl in
+    let aligned : All (λ (a : ℕ). a % 4 ≡ 0) addresses =
+    λ k d inside. let u = units k d inside in unit-aligned image (get_or addresses k d) u.0 u.1 in
+    let held : All (IsHeld image.segments) addresses =
+    λ k d inside. let u = units k d inside in unit-held image (get_or addresses k d) u.0 u.1 in
+    let few = words-few image.segments addresses rise aligned held in
+    let room = image.fits in
+    omega (arith, few, room)
+
 pub units-few : (image : Image) (entry : ℕ) (reached : List Reached) → AreReached image entry reached → HasNoFault image entry → length reached ≤ 2 ^ 24
 units-few image entry reached are faultless =
-    let addresses : List ℕ = map (λ (r : Reached). r.address) reached in
-    let units : All (λ (r : Reached). (unit : CodeUnit) × (content_at image r.address ≡ Stands unit)) reached =
-    λ k d inside. stands-at image entry (get_or reached k d).address faultless (are.sound k d inside) (content_at image (get_or reached k d).address) refl in
-    let aligned : All (λ (a : ℕ). a % 4 ≡ 0) addresses = All-map (λ (a : ℕ). a % 4 ≡ 0) (λ (r : Reached). r.address) reached
-    (λ k d inside. let u = units k d inside in unit-aligned image (get_or reached k d).address u.0 u.1) in
-    let held : All (IsHeld image.segments) addresses = All-map (IsHeld image.segments) (λ (r : Reached). r.address) reached
-    (λ k d inside. let u = units k d inside in unit-held image (get_or reached k d).address u.0 u.1) in
-    let few = words-few image.segments addresses (keys-rise (λ (r : Reached). r.address) reached are.rising) aligned held in
-    let room = image.fits in
-    omega (arith, few, room, length-map reached (λ (r : Reached). r.address))
+    let few = addresses-few image entry (map (λ (r : Reached). r.address) reached) (keys-rise (λ (r : Reached). r.address) reached are.rising)
+    (All-map (IsReached image entry) (λ (r : Reached). r.address) reached are.sound) faultless in
+    omega (arith, few, length-map reached (λ (r : Reached). r.address))
+
+-- So are the places of its net.
+pub places-few : (image : Image) (entry : ℕ) (net : Net) → IsNet image entry net → HasNoFault image entry → length net.places ≤ 2 ^ 24
+places-few image entry net is faultless =
+    let few = addresses-few image entry (map (λ (p : Place). p.address) net.places) (keys-rise (λ (p : Place). p.address) net.places is.rising)
+    (All-map (IsReached image entry) (λ (p : Place). p.address) net.places is.reached) faultless in
+    omega (arith, few, length-map net.places (λ (p : Place). p.address))
+
+-- Rising numbers from 1 on: the one at a position is greater than the position.
+numbers-risen : (numbers : List ℕ) → AllPairs (λ (a b : ℕ). a < b) numbers → All (λ (n : ℕ). 1 ≤ n) numbers → (k : ℕ) → k < length numbers →
+    k + 1 ≤ get_or numbers k 0
+numbers-risen numbers rise some zero inside = let first = some 0 0 inside in omega (arith, first)
+numbers-risen numbers rise some (suc k) inside =
+    let before = numbers-risen numbers rise some k (omega (arith, inside)) in
+    let up = rise k (suc k) 0 (omega arith) inside in
+    omega (arith, before, up)
+
+numbers-few : (numbers : List ℕ) (most : ℕ) → AllPairs (λ (a b : ℕ). a < b) numbers → All (λ (n : ℕ). 1 ≤ n) numbers → All (λ (n : ℕ). n ≤ most) numbers →
+    length numbers ≤ most
+numbers-few [] most rise some below = omega arith
+numbers-few (n ∷ more) most rise some below =
+    let last = numbers-risen (n ∷ more) rise some (length more) (omega arith) in
+    let top = below (length more) 0 (omega arith) in
+    omega (arith, last, top)
+
+-- A net has no more loop instances than places, since each has a header of its own.
+pub loops-few : (image : Image) (entry : ℕ) (net : Net) → IsNet image entry net → length net.loops ≤ length net.places
+loops-few image entry net is =
+    let key : LoopInst → ℕ = λ (l : LoopInst). l.header in
+    let few = numbers-few (map key net.loops) (length net.places) (keys-rise key net.loops is.loops.rising)
+    (All-map (λ (n : ℕ). 1 ≤ n) key net.loops (λ k d inside.
+    let at = (is.loops.each k d inside).at in item-positive net.places (get_or net.loops k d).header at.place at.there))
+    (All-map (λ (n : ℕ). n ≤ length net.places) key net.loops (λ k d inside.
+    let at = (is.loops.each k d inside).at in item-within net.places (get_or net.loops k d).header at.place at.there)) in
+    omega (arith, few, length-map net.loops key)

@@ -3,9 +3,11 @@
 ghost use Rattle.std.specs.Prelude.{◌≡◌, ◌≤◌, ◌^◌, ℕ, [], length, IfOk, IfErr};
 ghost use Rattle.flow_net.specs.Nested.{IsNested};
 ghost use Rattle.ipet_program.specs.Certificates.{IsValid};
-ghost use Rattle.ipet_program.specs.Programs.{FitsImage, IsCheckable, IsProgramOf, crude_limit};
+ghost use Rattle.ipet_program.specs.Programs.{FitsImage, IsCheckable, crude_limit};
 ghost use Rattle.ipet_program.specs.declared.program.Program.{Program};
 ghost use Rattle.nest_solver.specs.Answers.{ShowsGreatest};
+ghost use Rattle.nest_solver.specs.Nets.{IsProgramOfNet};
+ghost use Rattle.nest_solver.specs.Tables.{IsFew};
 ghost use Rattle.loop_nest.specs.Nests.{IsNest};
 ghost use Rattle.net_model.specs.Faults.{HasNoFault};
 ghost use Rattle.net_model.specs.Net.{Returns};
@@ -48,9 +50,9 @@ fn bound_of(leaf: &Leaf) -> u64
 /// The certificate of one leaf, which shows the greatest value, and of counts that have this value.
 fn certificate_of(alloc: Global, program: &Program, net: &Net) -> Result<Certificate, AllocError>
     requires nested { IsNested net.now }
-    requires program { (price : ℕ → ℕ) × IsProgramOf net.now price program.now }
+    requires few { IsFew net.now }
+    requires program { IsProgramOfNet net.now program.now }
     requires checkable { IsCheckable program.now }
-    requires few { length net.now.arcs ≤ 2 ^ 25 }
     ensures valid { IfOk result (IsValid program.now) }
     ensures reached { IfOk result (λ certificate. certificate.reached ≡ certificate.bound) }
 {
@@ -79,7 +81,7 @@ fn certify_net(
 ) -> Result<Certificate, Refused>
     requires nested { IsNested net.now }
     requires fits { FitsImage image.now net.now }
-    requires few { length net.now.arcs ≤ 2 ^ 25 }
+    requires few { IsFew net.now }
     requires accesses { net.now.accesses ≡ [] }
     ensures certifies { IfOk result (Certifies image.now profile.now net.now) }
     ensures large { IfErr result (TellsLargeNet image.now profile.now net.now) }

@@ -8,12 +8,12 @@ use Rattle.wcet_engine.proofs.certificate.certificate_of.Goals as goal
 pub bound_of-bound-requires : goal.bound_of-bound-requires
 bound_of-bound-requires c = (
   c.args.program.now,
-  c.in_ok-leaf.ensures,
-  bound-low c.args.net.now c.requires.program.0 c.args.program.now c.in_ok-leaf.leaf c.requires.nested c.requires.program.1 c.in_ok-leaf.ensures,
+  c.in_ok-leaf.ensures.shows,
+  bound-low c.args.net.now c.requires.program.price c.args.program.now c.in_ok-leaf.leaf c.requires.nested c.requires.program.of_net c.in_ok-leaf.ensures.shows,
 )
 
 pub returns-clause-valid : goal.returns-clause-valid
 returns-clause-valid c =
-    solved c.args.program.now c.in_ok-leaf.leaf c.in_ok-counts.counts c.bound_of-bound.result _ c.requires.checkable c.in_ok-leaf.ensures
-    c.in_ok-counts.ensures (c.bound_of-bound.ensures c.args.program.now c.in_ok-leaf.ensures) refl refl refl
+    solved c.args.program.now c.in_ok-leaf.leaf c.in_ok-counts.counts c.bound_of-bound.result _ c.requires.checkable c.in_ok-leaf.ensures.shows
+    c.in_ok-counts.ensures.greatest (c.bound_of-bound.ensures c.args.program.now c.in_ok-leaf.ensures.shows) refl refl refl
     (c.in_ok-push.ensures.ok ∙ ap (λ (nodes : List Node). nodes ++ End c.in_ok-leaf.leaf ∷ []) c.new-tree.ensures)

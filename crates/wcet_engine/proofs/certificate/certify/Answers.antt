@@ -6,7 +6,7 @@ use Rattle.wcet_engine.proofs.Certified.{certified, fits-image, too-large}
 use Rattle.unit_graph.specs.declared.reached.Reached.{Reached}
 use Rattle.wcet_engine.specs.Arcs.{returns_in}
 use Rattle.wcet_engine.proofs.ArcCount.{returns-counted}
-use Rattle.wcet_engine.proofs.Few.{few-loops, few-reached, units-few}
+use Rattle.wcet_engine.proofs.Few.{few-loops, few-reached, loops-few, places-few, units-few}
 use Rattle.wcet_engine.proofs.certificate.certify.Goals as goal
 
 pub net_of-requires-clause-code : goal.net_of-requires-clause-code
@@ -49,7 +49,11 @@ certify_net-requires-clause-few c =
     let most = subst (λ (rs : List Reached). length c.in_ok-net.net.arcs + returns_in rs ≤ 1 + 2 * length rs) c.as_slice.ensures c.in_ok-net.ensures.few in
     let some = returns-counted image image.entry reached c.requires.code.units c.requires.returns in
     let units = units-few image image.entry reached contents c.requires.faultless in
-    omega (arith, most, some, units)
+    let nest = c.entry_loops-loops.ensures image image.entry c.requires.loops in
+    let net = c.in_ok-net.ensures.net image (rw c.as_slice.ensures contents) nest in
+    let places = places-few image image.entry c.in_ok-net.net net c.requires.faultless in
+    let loops = loops-few image image.entry c.in_ok-net.net net in
+    record { arcs = omega (arith, most, some, units); places = omega (arith, places); loops = omega (arith, places, loops) }
 
 pub returns-clause-certified : goal.returns-clause-certified
 returns-clause-certified c =
