@@ -303,10 +303,12 @@ units-few image entry reached are faultless =
     omega (arith, few, length-map reached (λ (r : Reached). r.address))
 
 -- So are the places of its net.
-pub places-few : (image : Image) (entry : ℕ) (net : Net) → IsNet image entry net → HasNoFault image entry → length net.places ≤ 2 ^ 24
-places-few image entry net is faultless =
+pub places-few : (image : Image) (entry : ℕ) (net : Net) → ((place : ℕ) → IsUnbuiltAt image entry place → ⊥) → IsNet image entry net →
+    HasNoFault image entry → length net.places ≤ 2 ^ 24
+places-few image entry net followed is faultless =
     let few = addresses-few image entry (map (λ (p : Place). p.address) net.places) (keys-rise (λ (p : Place). p.address) net.places is.rising)
-    (All-map (IsReached image entry) (λ (p : Place). p.address) net.places is.reached) faultless in
+    (All-map (IsReached image entry) (λ (p : Place). p.address) net.places
+    (λ k d inside. code-reached image entry (get_or net.places k d).address followed (is.reached k d inside))) faultless in
     omega (arith, few, length-map net.places (λ (p : Place). p.address))
 
 -- Rising numbers from 1 on: the one at a position is greater than the position.

@@ -49,9 +49,9 @@ certify_net-requires-clause-few c =
     let most = subst (λ (rs : List Reached). length c.in_ok-net.net.arcs + returns_in rs ≤ 1 + 2 * length rs) c.as_slice.ensures c.in_ok-net.ensures.few in
     let some = returns-counted image image.entry reached c.requires.code.units c.requires.returns in
     let units = units-few image image.entry reached contents c.requires.faultless in
-    let nest = c.entry_loops-loops.ensures image image.entry c.requires.loops in
-    let net = c.in_ok-net.ensures.net image (rw c.as_slice.ensures contents) nest in
-    let places = places-few image image.entry c.in_ok-net.net net c.requires.faultless in
+    let nest = c.entry_loops-loops.ensures image c.requires.loops in
+    let net = c.in_ok-net.ensures.net image (rw c.as_slice.ensures c.requires.code.units) nest in
+    let places = places-few image image.entry c.in_ok-net.net c.requires.code.units.followed net c.requires.faultless in
     let loops = loops-few image image.entry c.in_ok-net.net net in
     record { arcs = omega (arith, most, some, units); places = omega (arith, places); loops = omega (arith, places, loops) }
 
