@@ -42,10 +42,10 @@ follows_at s depth round weight best choice swept p u behind some =
     elim (cases_Bool (closes s depth (choice p))) as (λ _. (way : List ℕ) × Follows s depth choice p way) [
       | inl ends ↦ (choice p ∷ [], (refl, inl (ends, refl)))
       | inr ongoing ↦
-        let on = goes-behind s depth round weight best choice p swept some ongoing in
-        let goes = goes_on-out s depth round (choice p) on.on in
-        let rest = behind (choice p) (swept.up p some) (swept.leaves p some) goes.to goes.forward on.known in
-        (choice p ∷ rest.0, (refl, inr (ongoing, rest.1)))
+          let on = goes-behind s depth round weight best choice p swept some ongoing in
+          let goes = goes_on-out s depth round (choice p) on.on in
+          let rest = behind (choice p) (swept.up p some) (swept.leaves p some) goes.to goes.forward on.known in
+          (choice p ∷ rest.0, (refl, inr (ongoing, rest.1)))
     ]
 
 pub follows-some : (s : Shape) (depth : ℕ) (round weight best choice : ℕ → ℕ) (p : ℕ) → IsNest s →
@@ -72,22 +72,22 @@ follows-way s depth round weight best choice p (i ∷ more) swept some f =
             weighs = omega (arith, swept.tight p some, ap weight f.0, closed ends.0);
           })
       | inr on ↦
-        let ongoing : closes s depth (choice p) ≡ false = subst (λ (k : ℕ). closes s depth k ≡ false) f.0 on.0 in
-        let behind = goes-behind s depth round weight best choice p swept some ongoing in
-        let to : s.to i ≡ s.to (choice p) = ap s.to f.0 in
-        let rest = follows-way s depth round weight best choice (s.to i) more swept
-        (omega (arith, ap best to, behind.known)) on.1 in
-        record {
-          goes = (up, leaves, inr (subst (λ (k : ℕ). goes_on s depth round k ≡ true) (sym f.0) behind.on, rest.goes));
-          weighs = omega (
-            arith,
-            sum_by-cons weight i more,
-            rest.weighs,
-            behind.tight,
-            ap weight f.0,
-            ap best to,
-          );
-        }
+          let ongoing : closes s depth (choice p) ≡ false = subst (λ (k : ℕ). closes s depth k ≡ false) f.0 on.0 in
+          let behind = goes-behind s depth round weight best choice p swept some ongoing in
+          let to : s.to i ≡ s.to (choice p) = ap s.to f.0 in
+          let rest = follows-way s depth round weight best choice (s.to i) more swept
+          (omega (arith, ap best to, behind.known)) on.1 in
+          record {
+            goes = (up, leaves, inr (subst (λ (k : ℕ). goes_on s depth round k ≡ true) (sym f.0) behind.on, rest.goes));
+            weighs = omega (
+              arith,
+              sum_by-cons weight i more,
+              rest.weighs,
+              behind.tight,
+              ap weight f.0,
+              ap best to,
+            );
+          }
     ]
   where
     up : IsUpTo s.arcs i
@@ -162,7 +162,7 @@ walking-end s depth choice from often before after i p walking ends =
 -- There is room for the next arc, and for the first one.
 room_of : (s : Shape) (depth : ℕ) (choice : ℕ → ℕ) (from often : ℕ) (before : ℕ → ℕ) (way : List ℕ) (k m : ℕ) →
     ((other : List ℕ) → Follows s depth choice from other → (i : ℕ) → IsUpTo s.arcs i →
-        before i + often * times other i < 2 ^ 64) →
+    before i + often * times other i < 2 ^ 64) →
     Follows s depth choice from way → IsUpTo s.arcs k → m ≤ times way k → before k + often * m < 2 ^ 64
 room_of s depth choice from often before way k m room follows u few =
     omega (arith, room way follows k u, mul-le-mul_left often few)

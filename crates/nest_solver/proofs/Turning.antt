@@ -37,7 +37,6 @@ followed-turn s value turns path total depth best choice start k way nest begun 
 module _ (s : Shape) (value turns : ℕ → ℕ) (path : List ℕ) (total depth k : ℕ) (best choice often start counts : ℕ → ℕ)
     (nest : IsNest s) (u : IsUpTo s.loops k) (deep : s.depth k ≡ depth)
     (at : IsAtTurn s value turns path total depth k best choice often start counts) where
-
   split : depth ≡ suc (depth - 1)
   split = omega (arith, at.begun.deep)
 
@@ -105,10 +104,13 @@ module _ (s : Shape) (value turns : ℕ → ℕ) (path : List ℕ) (total depth 
       IsPutting s (weight_of s value turns) turns start depth next counts
   turn-none next none less between =
       putting-more s (weight_of s value turns) turns start counts counts depth k next [] at.putting u deep
-      (inl (refl, omega (
-        arith,
-        none,
-        turned-again s value turns at.begun.round best choice depth nest (at.begun.settled.solved depth at.begun.deep)
-            at.begun.rounds at.begun.swept k u deep,
-      )))
+      (inl (
+        refl,
+        omega (
+          arith,
+          none,
+          turned-again s value turns at.begun.round best choice depth nest (at.begun.settled.solved depth at.begun.deep)
+              at.begun.rounds at.begun.swept k u deep,
+        ),
+      ))
       (λ i v. omega arith) less between

@@ -11,7 +11,7 @@ Follows s depth choice from [] = ⊥
 Follows s depth choice from (i ∷ more) =
     (i ≡ choice from)
     × (((closes s depth i ≡ true) × (more ≡ []))
-        ⊎ ((closes s depth i ≡ false) × Follows s depth choice (s.to i) more))
+    ⊎ ((closes s depth i ≡ false) × Follows s depth choice (s.to i) more))
 
 -- A sweep chose the arcs, and found a way from the place; along it each count may grow.
 pub record IsWalkable (s : Shape) (depth : ℕ) (choice : ℕ → ℕ) (from often : ℕ) (counts : ℕ → ℕ) : Type 0 where

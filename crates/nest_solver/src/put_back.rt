@@ -39,12 +39,12 @@ fn put_turn(
         (entry counts.old) }
     ensures put { (value turns start : ℕ → ℕ) (path : List ℕ) (total next : ℕ) →
         IsAtTurn (plain net.now tables.now) value turns path total depth scope (entry best.now) (entry choice.now)
-            (entry often.now) start (entry counts.old) →
+        (entry often.now) start (entry counts.old) →
         next < scope →
         ((l : ℕ) → IsUpTo (length net.now.loops) l → entry tables.now.scopes.depths.items l ≡ depth → next < l →
-            l < scope → ⊥) →
+        l < scope → ⊥) →
         IsPutting (plain net.now tables.now) (weight_of (plain net.now tables.now) value turns) turns start depth next
-            (entry counts.new) }
+        (entry counts.new) }
 {
     let head = header(net, scope);
     if best[head] == 0 {

@@ -57,10 +57,10 @@ walk-requires-clause-walkable c =
     let times : s.bound c.args.scope - 1 ≡ c.from.result = omega (arith, c.from.ensures, c.bound.ensures) in
     subst
     (λ (from : ℕ). IsWalkable s c.args.depth (entry c.args.choice.now) from
-        (c.from.result * entry c.args.often.now c.args.scope) (entry c.args.counts.now)) (sym c.header-head.ensures)
+    (c.from.result * entry c.args.often.now c.args.scope) (entry c.args.counts.now)) (sym c.header-head.ensures)
     (subst
     (λ (n : ℕ). IsWalkable s c.args.depth (entry c.args.choice.now) (s.header c.args.scope)
-        (n * entry c.args.often.now c.args.scope) (entry c.args.counts.now)) times
+    (n * entry c.args.often.now c.args.scope) (entry c.args.counts.now)) times
     (turn-walkable s turn.value turn.turns turn.path turn.total c.args.depth c.args.scope (entry c.args.best.now)
     (entry c.args.choice.now) (entry c.args.often.now) turn.start (entry c.args.counts.now) nest c.requires.scope
     c.requires.deep turn.turn some))
@@ -77,11 +77,11 @@ returns c =
     (entry c.walk.new.counts) =
     subst
     (λ (from : ℕ). IsWalked s c.args.depth (entry c.args.choice.now) from
-        ((s.bound c.args.scope - 1) * entry c.args.often.now c.args.scope) (entry c.args.counts.now)
-        (entry c.walk.new.counts)) c.header-head.ensures
+    ((s.bound c.args.scope - 1) * entry c.args.often.now c.args.scope) (entry c.args.counts.now)
+    (entry c.walk.new.counts)) c.header-head.ensures
     (subst
     (λ (n : ℕ). IsWalked s c.args.depth (entry c.args.choice.now) c.header-head.result
-        (n * entry c.args.often.now c.args.scope) (entry c.args.counts.now) (entry c.walk.new.counts)) times
+    (n * entry c.args.often.now c.args.scope) (entry c.args.counts.now) (entry c.walk.new.counts)) times
     c.walk.ensures.walked) in
     record {
       put = λ value turns start path total next at less between.

@@ -23,8 +23,13 @@ loop-arc-init c =
     let first : IsUpTo s.arcs (choice c.args.from) =
     c.requires.walkable.swept.up c.args.from c.requires.walkable.known in
     record {
-      count = omega (arith, ap length c.pass-arc.ensures.counts, length-set c.args.counts.now c.pass-arc.result
-          (entry c.args.counts.now c.pass-arc.result + c.args.often), c.requires.counts);
+      count = omega (
+        arith,
+        ap length c.pass-arc.ensures.counts,
+        length-set c.args.counts.now c.pass-arc.result
+            (entry c.args.counts.now c.pass-arc.result + c.args.often),
+        c.requires.counts,
+      );
       up = omega (arith, chosen, first);
       walking = λ walkable. (
         c.args.from,
@@ -84,7 +89,7 @@ loop-arc-smaller c =
     c.pass-arc-in-loop-arc.ensures.arc ∙ ap choice c.target.ensures in
     subst
     (λ (i : ℕ). entry c.args.tables.now.order.positions.items i
-        < entry c.args.tables.now.order.positions.items c.loop-arc.arc) (sym chosen)
+    < entry c.args.tables.now.order.positions.items c.loop-arc.arc) (sym chosen)
     (behind.behind c.loop-arc.arc (choice (s.to c.loop-arc.arc)) c.loop-arc.invariant.up next.up next.forward next.to
     next.leaves)
 
@@ -110,8 +115,7 @@ loop-arc-preserved c =
       walking = λ walkable.
           let walking = c.loop-arc.invariant.walking walkable in
           let onward = next-arc s c.args.depth walkable.round walkable.weight walkable.best choice c.loop-arc.arc
-          walking.0 walkable.swept walking.2 walking.1.chosen ongoing in
-          (
+          walking.0 walkable.swept walking.2 walking.1.chosen ongoing in (
             s.to c.loop-arc.arc,
             walking-more s c.args.depth choice c.args.from c.args.often (entry c.args.counts.now)
                 (entry c.loop-arc.counts) (entry c.pass-arc-in-loop-arc.new.counts) c.loop-arc.arc walking.0

@@ -13,7 +13,7 @@ invariant-loop-arc l = record {
   walking : (walkable : IsWalkable (plain l.net l.tables) l.depth (entry l.choice) l.from l.often (entry l.fn.counts)) →
       (p : ℕ)
       × IsWalking (plain l.net l.tables) l.depth (entry l.choice) l.from l.often (entry l.fn.counts) (entry l.counts)
-          l.arc p
+      l.arc p
       × (0 < walkable.best p);
 }
 
