@@ -44,6 +44,7 @@ pub mod Best
 pub mod Answering
 pub mod Following
 pub mod Turning
+pub mod Outward
 pub mod Latest
 pub mod Raising
 pub mod WorthLevels

@@ -1,17 +1,27 @@
 -- The turn of one loop is put back by a walk from its header.
-use Rattle.std.proofs.Common.{◌≡◌, ◌⊎◌, ℕ, zero, suc, ◌+◌, ◌-◌, ◌*◌, ◌^◌, ◌<◌, ◌≤◌, List, [], ◌∷◌, sum_by, refl, sym, ap, ◌∙◌, subst, inl, inr, arith, mul-le-mul_left}
+use Rattle.std.proofs.lemmas.Bool.Decides.{nat_tests}
+use Rattle.nest_solver.specs.Nets.{entry, value_at_end}
+use Rattle.std.proofs.Common.{◌≡◌, ℕ, zero, suc, ◌+◌, ◌-◌, ◌*◌, ◌<◌, ◌≤◌, ◌==◌, ◌&&◌, not, Bool, true, false, length, set, mul_comm, List, [], ◌∷◌, refl, sym, ap, ◌∙◌, subst, inl, inr, arith}
 use Rattle.ipet_program.specs.Programs.{crude_limit}
 use Rattle.ipet_program.specs.Sums.{sum_to}
-use Rattle.nest_solver.specs.Shape.{Shape, IsNest, IsUpTo, is_entering}
+use Rattle.nest_solver.specs.Shape.{Shape, IsNest, IsUpTo, is_back, is_entering, target}
 use Rattle.nest_solver.specs.Ways.{IsRound, IsSwept, IsWay}
 use Rattle.nest_solver.specs.Solved.{IsSolved, weight_of}
 use Rattle.nest_solver.specs.Counted.{IsTurn, bit, entered, enters, times}
 use Rattle.nest_solver.specs.Putting.{IsCountedTo, IsPutting, HasRoomFor}
 use Rattle.nest_solver.specs.Walks.{Follows, IsWalkable, IsWalked}
-use Rattle.nest_solver.specs.Begun.{IsAtTurn, IsBegun, IsSettled}
+use Rattle.nest_solver.specs.Begun.{IsAtTurn, IsBegun, IsReady, IsSettled}
 use Rattle.nest_solver.proofs.Facing.{turned-again}
-use Rattle.nest_solver.proofs.Following.{follows-some, follows-way}
-use Rattle.nest_solver.proofs.Putting.{putting-more, putting-room}
+use Rattle.nest_solver.proofs.Following.{counts-pass, follows-some, follows-way}
+use Rattle.nest_solver.proofs.Putting.{counted-next, putting-more, putting-room}
+use Rattle.nest_solver.proofs.Levels.{levels-swept}
+use Rattle.std.proofs.lemmas.Bool.{cases_Bool, cases_lt}
+use Rattle.std.proofs.Common.{mul-le-mul_right}
+use Rattle.nest_solver.specs.Groups.{AreGrouped}
+use Rattle.nest_solver.proofs.Sums.{sum-le}
+use Rattle.nest_solver.proofs.Arcs.{entering-of}
+use Rattle.nest_solver.proofs.Along.{enters-none}
+use Rattle.nest_solver.proofs.Counting.{counted-value_most}
 
 -- The arcs followed from the header are the loop's turn.
 followed-turn : (s : Shape) (value turns : ℕ → ℕ) (path : List ℕ) (total depth : ℕ) (best choice start : ℕ → ℕ)
@@ -114,3 +124,109 @@ module _ (s : Shape) (value turns : ℕ → ℕ) (path : List ℕ) (total depth 
         ),
       ))
       (λ i v. omega arith) less between
+
+-- ---- How often loops are entered.
+-- A table in which the loop that an arc enters came so many times more.
+pub enters-put : (s : Shape) (table : List ℕ) (i at more l : ℕ) → at ≡ target s i → (target s i ≡ 0 → ⊥) →
+    is_back s i ≡ false → at < length table →
+    entry (set table at (entry table at + more)) l ≡ entry table l + bit (enters s l i) * more
+enters-put s table i at more l is some forward low =
+    counts-pass table at at more refl low l
+    ∙ ap (λ n. entry table l + n)
+    (mul_comm more (bit (at == l))
+    ∙ ap (λ b. b * more)
+    (ap (λ (t : ℕ). bit (t == l)) is ∙ sym (ap (λ (b : Bool). bit (b && (target s i == l))) entering)))
+  where
+    by : (t : ℕ) (h : Bool) → (t ≡ 0 → ⊥) → (not (t == 0) && h) ≡ false → (not (t == 0) && not h) ≡ true
+    by t true n e = grind (arith, nat_tests)
+    by t false n e = grind (arith, nat_tests)
+
+    entering : is_entering s i ≡ true
+    entering = by (target s i) (s.holds (target s i) (s.from i)) some forward
+
+pub sum-next : (n : ℕ) (f : ℕ → ℕ) → 1 ≤ n → sum_to n f ≡ sum_to (n - 1) f + f n
+sum-next zero f low = absurd (omega (arith, low))
+sum-next (suc n) f low = ap (λ k. sum_to k f + f (suc n)) (let e : n ≡ suc n - 1 = omega arith in e)
+
+-- The counts with which a level begins enter no loop more often than the total.
+pub entered-small : (s : Shape) (value turns : ℕ → ℕ) (path : List ℕ) (total depth l : ℕ) (counts : ℕ → ℕ) → IsNest s →
+    IsSettled s value turns path total → IsCountedTo s (weight_of s value turns) turns path depth counts →
+    IsUpTo s.loops l → entered s counts l ≤ total
+entered-small s value turns path total depth l counts nest settled counted u =
+    omega (
+      arith,
+      counted-value_most s value turns depth total path counted.ways counts nest settled.out counted.are counted.counted,
+      sum-le s.arcs (λ i. bit (enters s l i) * counts i) (λ i. value i * counts i)
+          (λ i v. mul-le-mul_right (counts i) (one i v)),
+    )
+  where
+    one : (i : ℕ) → IsUpTo s.arcs i → bit (enters s l i) ≤ value i
+    one i v = elim (cases_Bool (is_entering s i)) as (λ _. bit (enters s l i) ≤ value i) [
+      | inr out ↦ omega (arith, enters-none s l i out)
+      | inl into ↦ let of_loop = entering-of s nest i into in
+          omega (
+            arith,
+            settled.costly i v (omega (arith, of_loop.header, nest.headers (target s i) of_loop.up)),
+            bit_most (enters s l i),
+          )
+    ]
+      where
+        bit_most : (t : Bool) → bit t ≤ 1
+        bit_most true = omega arith
+        bit_most false = omega arith
+
+-- ---- The loops of a depth, by falling numbers.
+pub record IsChain (s : Shape) (depth : ℕ) (k next : ℕ) : Type 0 where
+  pub less : next < k
+  pub deep : 0 < next → s.depth next ≡ depth
+  pub between : (l : ℕ) → IsUpTo s.loops l → s.depth l ≡ depth → next < l → l < k → ⊥
+
+pub chain-on : (s : Shape) (depth k : ℕ) (heads next : ℕ → ℕ) → AreGrouped s.depth (s.loops + 1) heads next →
+    IsUpTo s.loops k → s.depth k ≡ depth → IsChain s depth k (next k)
+chain-on s depth k heads next chains u deep = record {
+  less = chains.next_less k (omega (arith, u)) (omega (arith, u));
+  deep = λ some. chains.next_key k (omega (arith, u)) (omega (arith, u)) some ∙ deep;
+  between = λ l v e above below. omega (
+    arith,
+    chains.next_most k l (omega (arith, u)) (omega (arith, u)) (omega (arith, v)) below (e ∙ sym deep),
+    above,
+  );
+}
+
+pub chain-start : (s : Shape) (depth : ℕ) (heads next : ℕ → ℕ) → AreGrouped s.depth (s.loops + 1) heads next →
+    (0 < heads depth → IsUpTo s.loops (heads depth) × (s.depth (heads depth) ≡ depth))
+    × ((l : ℕ) → IsUpTo s.loops l → s.depth l ≡ depth → l ≤ heads depth) × (heads depth ≤ s.loops)
+chain-start s depth heads next chains = (
+  λ some. (omega (arith, some, chains.first_low depth some), chains.first_key depth some),
+  λ l u e. subst (λ (d : ℕ). l ≤ heads d) e (chains.first_most l (omega (arith, u)) (omega (arith, u))),
+  elim (cases_lt 0 (heads depth)) as (λ _. heads depth ≤ s.loops) [
+    | inl some ↦ omega (arith, chains.first_low depth some)
+    | inr none ↦ omega (arith, none)
+  ],
+)
+
+-- With no loop of the depth left the level is done.
+pub level-done : (s : Shape) (value turns : ℕ → ℕ) (path : List ℕ) (total depth : ℕ) (best choice start counts : ℕ → ℕ) →
+    IsNest s → IsBegun s value turns path total depth best choice start →
+    IsPutting s (weight_of s value turns) turns start depth 0 counts →
+    IsCountedTo s (weight_of s value turns) turns path depth counts
+level-done s value turns path total depth best choice start counts nest begun putting =
+    let deep : depth ≡ suc (depth - 1) = omega (arith, begun.deep) in
+    subst (λ (d : ℕ). IsCountedTo s (weight_of s value turns) turns path d counts) (sym deep)
+    (counted-next s (weight_of s value turns) turns start counts (depth - 1) path nest begun.counted
+    (subst (λ (d : ℕ). IsPutting s (weight_of s value turns) turns start d 0 counts) deep putting))
+
+-- A level begins where all loops are solved and the lesser depths are put back.
+pub begun-from : (s : Shape) (price weight turns : ℕ → ℕ) (path : List ℕ) (total depth : ℕ)
+    (round best choice start : ℕ → ℕ) → 0 < depth → IsReady s price weight turns path total (depth - 1) start →
+    IsRound s depth round → IsSwept s depth round weight best choice →
+    IsBegun s (value_at_end s price) turns path total depth best choice start
+begun-from s price weight turns path total depth round best choice start some ready rounds swept =
+    record {
+      settled = ready.settled;
+      deep = some;
+      counted = ready.counted;
+      round = round;
+      rounds = rounds;
+      swept = levels-swept s price weight turns round best choice depth 1 ready.levels swept;
+    }

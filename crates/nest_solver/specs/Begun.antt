@@ -3,6 +3,8 @@ use Rattle.std.specs.Prelude.{◌≡◌, ℕ, ◌-◌, ◌<◌, ◌≤◌, List}
 use Rattle.ipet_program.specs.Programs.{crude_limit}
 use Rattle.nest_solver.specs.Shape.{Shape, IsUpTo}
 use Rattle.nest_solver.specs.Ways.{IsRound, IsSwept}
+use Rattle.nest_solver.specs.Nets.{value_at_end}
+use Rattle.nest_solver.specs.Levels.{AreLevels}
 use Rattle.nest_solver.specs.Solved.{AreSolved, weight_of}
 use Rattle.nest_solver.specs.Counted.{IsPath, entered}
 use Rattle.nest_solver.specs.Putting.{IsCountedTo, IsPutting}
@@ -47,3 +49,15 @@ pub record SomeTurn (s : Shape) (depth at : ℕ) (best choice often counts : ℕ
   pub total : ℕ
   pub start : ℕ → ℕ
   pub turn : IsAtTurn s value turns path total depth at best choice often start counts
+
+-- Counts of a way out and of turns, once all loops are solved at these prices of places.
+pub record IsReady (s : Shape) (price weight turns : ℕ → ℕ) (path : List ℕ) (total depth : ℕ) (counts : ℕ → ℕ) : Type 0 where
+  pub levels : AreLevels s price weight turns 1
+  pub settled : IsSettled s (value_at_end s price) turns path total
+  pub counted : IsCountedTo s (weight_of s (value_at_end s price) turns) turns path depth counts
+
+pub record SomeReady (s : Shape) (weight turns : ℕ → ℕ) (depth : ℕ) (counts : ℕ → ℕ) : Type 0 where
+  pub price : ℕ → ℕ
+  pub path : List ℕ
+  pub total : ℕ
+  pub ready : IsReady s price weight turns path total depth counts

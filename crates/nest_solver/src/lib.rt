@@ -4,7 +4,9 @@
 mod arrivals;
 mod base;
 mod bound;
+mod counts;
 mod depths;
+mod entered;
 mod groups;
 mod headers;
 mod leaf;
@@ -24,3 +26,4 @@ mod values;
 mod walk;
 
 pub use bound::nest_bound;
+pub use counts::nest_counts;

@@ -136,8 +136,8 @@ fn look_at(
     choice[from] = arc;
 }
 
-/// Forgets all ways.
-fn clear(best: &mut [u64])
+/// Makes each entry of a table 0.
+pub fn clear(best: &mut [u64])
     ensures { (p : ℕ) → entry best.new p ≡ 0 }
 {
     for way in best.iter_mut() {

@@ -1,8 +1,7 @@
 -- A loop with a way back to its header is walked round, another one is passed over.
-use Rattle.std.proofs.Common.{◌≡◌, ℕ, ◌+◌, ◌-◌, ◌*◌, ◌<◌, ◌≤◌, Fits, List, length, sym, ap, ap₂, subst, ◌∙◌, arith}
+use Rattle.std.proofs.Common.{◌≡◌, ℕ, ◌-◌, ◌*◌, ◌<◌, sym, ap, subst, ◌∙◌, arith}
 use Rattle.nest_solver.specs.Nets.{entry}
 use Rattle.nest_solver.specs.Plain.{plain}
-use Rattle.nest_solver.specs.Shape.{IsUpTo}
 use Rattle.nest_solver.specs.Walks.{IsWalkable, IsWalked}
 use Rattle.nest_solver.proofs.Plains.{tables-nest}
 use Rattle.nest_solver.proofs.Turning.{turn-none, turn-often, turn-walkable, turn-walked}

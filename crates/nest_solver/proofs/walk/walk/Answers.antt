@@ -1,8 +1,8 @@
 -- Each arc of the walk is the one chosen at the place to which the last one goes, and there is room to count it.
-use Rattle.std.proofs.Common.{◌≡◌, ℕ, ◌+◌, ◌^◌, ◌<◌, ◌≤◌, Bool, true, false, length, length-set, sym, ap, subst, ◌∙◌, arith}
+use Rattle.std.proofs.Common.{◌≡◌, ℕ, ◌+◌, ◌^◌, ◌<◌, false, length, length-set, sym, ap, subst, ◌∙◌, arith}
 use Rattle.nest_solver.specs.Nets.{entry}
 use Rattle.nest_solver.specs.Plain.{plain}
-use Rattle.nest_solver.specs.Shape.{IsNest, IsUpTo}
+use Rattle.nest_solver.specs.Shape.{IsUpTo}
 use Rattle.nest_solver.specs.Ways.{closes}
 use Rattle.nest_solver.proofs.Following.{counts-pass, next-arc, walking-end, walking-more, walking-room_first, walking-room_more, walking-start}
 use Rattle.nest_solver.proofs.Plains.{tables-behind, tables-nest}
