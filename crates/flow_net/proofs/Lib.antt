@@ -5,4 +5,4 @@ pub mod Chains
 pub mod Holds
 pub mod Headers
 pub mod OnLiterals
-mod OnNested
+pub mod OnNested

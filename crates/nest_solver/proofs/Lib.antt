@@ -50,3 +50,4 @@ pub mod Raising
 pub mod WorthLevels
 pub mod Listing
 pub mod Starting
+pub mod OnLiterals

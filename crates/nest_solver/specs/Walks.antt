@@ -5,7 +5,6 @@ use Rattle.nest_solver.specs.Ways.{IsSwept, closes}
 use Rattle.nest_solver.specs.Counted.{times}
 
 -- The arcs that are chosen from a place on, up to the first one that ends a way.
-
 abbrev pub Follows : Shape → (depth : ℕ) → (choice : ℕ → ℕ) → (from : ℕ) → List ℕ → Type 0
 Follows s depth choice from [] = ⊥
 Follows s depth choice from (i ∷ more) =

@@ -18,6 +18,8 @@ mod scopes;
 mod solve;
 mod sweep;
 mod tables;
+#[cfg(test)]
+mod tests;
 mod turns;
 mod up;
 mod values;
