@@ -23,7 +23,7 @@ use Rattle.ipet_program.specs.declared.program.Row.{Row}
 use Rattle.ipet_program.proofs.Totals.{total_to, total_to-same, total_to-one}
 use Rattle.ipet_program.proofs.Terms.{row_sum-terms}
 use Rattle.ipet_program.proofs.Values.{value_of-total}
-use Rattle.ipet_program.proofs.Numbered.{item_at-numbered, All-numbered, length-numbered}
+use Rattle.ipet_program.proofs.Numbered.{item_at-numbered, numbered-all, length-numbered}
 use Rattle.ipet_program.proofs.RunCounts.{value_at-arc, length-value}
 use Rattle.nest_solver.specs.Nets.{shape_of, holds_of, value_at_end, source_of, header_of}
 use Rattle.nest_solver.specs.Shape.{Shape, IsUpTo}
@@ -237,9 +237,9 @@ module _ (net : Net) (depth headed : ℕ → ℕ) where
         (entry-sum x some ∙ ap (λ (n : ℕ). pos n) keeps.first)
         (All-append (IsMet x) (numbered (place_row net.arcs) (length net.places))
         (numbered (loop_row net (holds_of net)) (length net.loops))
-        (All-numbered (IsMet x) (place_row net.arcs) (length net.places)
+        (numbered-all (IsMet x) (place_row net.arcs) (length net.places)
         (λ p low high. (same_sums _ _ _ (place-sum x p)).1 (keeps.kept p (low, high))))
-        (All-numbered (IsMet x) (loop_row net (holds_of net)) (length net.loops)
+        (numbered-all (IsMet x) (loop_row net (holds_of net)) (length net.loops)
         (λ l low high. (loop-met x l (low, high)).1 (keeps.bounded l (low, high))))),
   )
     where
