@@ -1,19 +1,11 @@
 -- A loop within a loop, and its program, written out: the net is nested, and the program is that of the net.
-use Rattle.std.proofs.Common.{◌≡◌, ℕ, zero, suc, ◌+◌, ◌^◌, ◌<◌, ◌≤◌, List, [], ◌∷◌, true, false, refl, subst, sym, arith}
+use Rattle.std.proofs.Common.{◌≡◌, ℕ, zero, suc, ◌≤◌, List, [], ◌∷◌, true, false, refl, subst, sym, arith}
 use Rattle.flow_net.specs.Nested.{IsNested}
 use Rattle.flow_net.specs.Numbers.{IsNumberOf}
 use Rattle.flow_net.specs.declared.net.Net.{Net}
-use Rattle.flow_net.specs.declared.net.NetArc.{NetArc}
-use Rattle.flow_net.specs.declared.net.Place.{Place}
-use Rattle.flow_net.specs.declared.net.LoopInst.{LoopInst}
-use Rattle.flow_net.specs.declared.net.Context.{Context}
-use Rattle.flow_net.specs.declared.net.Access.{Access}
 use Rattle.flow_net.proofs.OnNested.{two_loops, nested_two_loops}
-use Rattle.ipet_program.specs.Programs.{IsProgramOf, crude_of, crude_limit}
-use Rattle.ipet_program.specs.Rows.{rows_of}
 use Rattle.ipet_program.specs.declared.program.Program.{Program}
 use Rattle.ipet_program.specs.declared.program.Row.{Row}
-use Rattle.ipet_program.specs.declared.program.Stage.{Stage}
 use Rattle.ipet_program.specs.declared.program.Term.{Term}
 use Rattle.nest_solver.specs.Nets.{IsProgramOfNet, holds_of}
 use Rattle.nest_solver.specs.Tables.{IsFew}
