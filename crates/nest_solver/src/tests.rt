@@ -5,7 +5,7 @@ ghost use Rattle.flow_net.specs.Nested.{IsNested};
 ghost use Rattle.nest_solver.specs.Nets.{IsProgramOfNet};
 ghost use Rattle.nest_solver.specs.Tables.{IsFew};
 
-use crate::nest_bound;
+use crate::{nest_bound, nest_counts};
 use flow_net::{Access, Context, LoopInst, Net, NetArc, Place, Role};
 use ipet_program::{Program, Row, Term};
 use std::alloc::{AllocError, Global};
@@ -181,5 +181,23 @@ fn inner_loop_is_entered_from_each_turn_but_the_last(rt: HostRuntime) -> Result<
     assert_eq!(rt; weights[0].row, 1);
     assert_eq!(rt; weights[0].times, 830);
     assert_eq!(rt; leaf.denom, 1);
+    Ok(())
+}
+
+/// The arcs of such a run: the entry, twice from the outer header to the inner one, six times round the inner loop, twice
+/// back, and the end.
+#[test]
+fn arcs_are_counted_by_the_turns(rt: HostRuntime) -> Result<(), Fail> {
+    let pair = two_loops(rt.alloc())?;
+    let listed = nest_counts(rt.alloc(), &pair.program, &pair.net)?;
+    let counts = listed.as_slice();
+    assert_eq!(rt; counts.len(), 5);
+    assert_eq!(rt; counts[0].column, 1);
+    assert_eq!(rt; counts[0].number, 1);
+    assert_eq!(rt; counts[1].number, 2);
+    assert_eq!(rt; counts[2].number, 6);
+    assert_eq!(rt; counts[3].number, 2);
+    assert_eq!(rt; counts[4].number, 1);
+    assert_eq!(rt; counts[4].column, 5);
     Ok(())
 }
