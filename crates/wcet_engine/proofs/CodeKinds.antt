@@ -65,11 +65,11 @@ linked-kind image address place kind (Fault other spot) there e =
     let same : other ≡ kind = cc in subst IsOfWord same (content-kind image address spot other (word_at image address) refl there)
 linked-kind image address place kind (Stands unit) there e =
     by_tests (needs_target unit.instr && is_none (targets_at image address)) (links_elsewhere unit.instr) e where
-  by_tests : (b c : Bool) →
-      cond b (Fault code.UnknownTarget address) (cond c (Fault code.LinkRegister address) (Stands unit)) ≡ Fault kind place → IsOfWord kind
-  by_tests true c e = let same : code.UnknownTarget ≡ kind = cc in subst IsOfWord same tt
-  by_tests false true e = let same : code.LinkRegister ≡ kind = cc in subst IsOfWord same tt
-  by_tests false false e = absurd cc
+      by_tests : (b c : Bool) →
+          cond b (Fault code.UnknownTarget address) (cond c (Fault code.LinkRegister address) (Stands unit)) ≡ Fault kind place → IsOfWord kind
+      by_tests true c e = let same : code.UnknownTarget ≡ kind = cc in subst IsOfWord same tt
+      by_tests false true e = let same : code.LinkRegister ≡ kind = cc in subst IsOfWord same tt
+      by_tests false false e = absurd cc
 
 offence-kind : (image : Image) (entry : ℕ) (kind : CodeKind) (place : ℕ) → Offends image entry kind place → IsOfWord kind
 offence-kind image entry _ _ (faulty kind place address reached e) = linked-kind image address place kind (content_at image address) refl e
