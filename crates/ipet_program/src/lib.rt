@@ -21,6 +21,7 @@ mod prices;
 mod program;
 mod rows;
 mod shows;
+mod split;
 #[cfg(test)]
 mod standing;
 #[cfg(test)]
@@ -36,3 +37,4 @@ pub use leaf::{Leaf, Side2, Weight};
 pub use price::unit_price;
 pub use program::{Program, Row, Stage, Term};
 pub use shows::shows_leaf;
+pub use split::{first_part, second_part};
