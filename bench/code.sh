@@ -48,10 +48,10 @@ def write(path, words):
 
 
 def run(path):
-    """The answer, the seconds and the peak of memory in KiB."""
+    """The answer's first line, the seconds and the peak of memory in KiB."""
     before = time.monotonic()
     child = subprocess.Popen([PROGRAM, "analyse", path], stdout=subprocess.PIPE)
-    answer = child.stdout.read().decode().strip()
+    answer = child.stdout.read().decode().split("\n")[0]
     _, _, usage = os.wait4(child.pid, 0)
     return answer, time.monotonic() - before, usage.ru_maxrss
 
