@@ -106,6 +106,31 @@ TRIALS = [
     ),
 ]
 
+def nested(depth):
+    """Loops inside one another, each at most three times: their headers, then a branch back to each."""
+    words = [0] * depth
+    for level in reversed(range(depth)):
+        words += [0x14800000 | (level - len(words) - 1) & 0xFFFF, 0]
+    records = [(1, START + 4 * level, 3, 0) for level in range(depth)]
+    return words + [0x03E00008, 0], records
+
+
+# A loop that is left from its middle: the header, a branch out, and a branch back.
+LEFT = [0x2508FFFF, 0x11000003, 0, 0x1000FFFC, 0, 0x03E00008, 0]
+# A loop whose body may go to a BREAK, which goes nowhere.
+DEAD_END = [0x2508FFFF, 0x11200005, 0, 0x1500FFFC, 0, 0x03E00008, 0, 0x0000000D]
+
+# Name, words, records, bound by hand. A nest costs three times 33 cycles and what is inside it, and 22 for the return.
+BOUNDS = [
+    ("a nest of depth 1", *nested(1), 121),
+    ("a nest of depth 2", *nested(2), 418),
+    ("a nest of depth 3", *nested(3), 1309),
+    ("a nest of depth 4", *nested(4), 3982),
+    ("a nest of depth 5", *nested(5), 12001),
+    ("a loop left from its middle", LEFT, [(1, START, 4, 0)], 4 * 33 + 3 * 22 + 22),
+    ("a loop with a dead end", DEAD_END, [(1, START, 3, 0)], 3 * 55 + 22),
+]
+
 NATURAL = r"(0|[1-9][0-9]*)"
 WHOLE = r"(0|-?[1-9][0-9]*)"
 
@@ -317,6 +342,17 @@ def main(program):
                 tally.check(f"{name}: bound and reached", (printed.bound, printed.reached), (bound, bound))
                 tally.check(f"{name}: counts", printed.counts, counts)
                 tally.check(f"{name}: nodes", len(printed.tree), 1)
+        for name, words, records, bound in BOUNDS:
+            with open(path, "wb") as file:
+                file.write(elf(words, records))
+            run = subprocess.run([program, "analyse", path], capture_output=True, text=True, check=False)
+            tally.check(f"{name}: status", (run.returncode, run.stderr), (0, ""))
+            try:
+                printed = Certificate(run.stdout)
+            except Broken:
+                tally.check(f"{name}: text", run.stdout, "a certificate")
+                continue
+            tally.check(f"{name}: bound and reached", (printed.bound, printed.reached), (bound, bound))
     print(f"{tally.passed} passed, {tally.failed} failed")
     return 0 if tally.failed == 0 else 1
 
