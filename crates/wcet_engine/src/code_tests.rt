@@ -87,10 +87,10 @@ fn refuses_faults_of_the_code(rt: HostRuntime) -> Result<(), Fail> {
         ),
         (&[0x0000_000D], "refused never-returns 00400000\n"),
         (&[RETURN, 0x0000_000C], "refused never-returns 00400000\n"),
-        // An indirect call with BREAK in its slot calls nothing.
+        // An indirect call with BREAK in its slot calls nothing, but needs a recorded target.
         (
             &[0x0100_F809, 0x0000_000D],
-            "refused never-returns 00400000\n",
+            "refused unknown-target 00400000\n",
         ),
         (
             &[0x8C00_0000, 0xFC00_0000],
