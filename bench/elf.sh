@@ -3,13 +3,7 @@
 # The peak is at least that of the Python which starts the program, some 14,000 KiB.
 # usage: bench/elf.sh [FOLDER]   (the files are made in FOLDER, or in a new one that is removed again)
 set -eu
-cd "$(dirname "$0")/.."
-folder=${1:-}
-if [ -z "$folder" ]; then
-    folder=$(mktemp -d)
-    trap 'rm -rf "$folder"' EXIT
-fi
-mkdir -p "$folder"
+source "$(dirname "$0")/folder.sh"
 python3 - "$folder" <<'PYTHON'
 """Makes the files. Some are a header, a table of program headers at 52, and the bytes of the segments;
 some are a header, the bytes of sections from 52 on, and a table of section headers."""
