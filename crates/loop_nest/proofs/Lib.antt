@@ -4,13 +4,8 @@ pub mod Laminar
 pub mod ForwardWays
 pub mod HeaderRank
 pub mod Innermost
--- Laws of the net of a function.
-pub mod NetItems
-pub mod NetScopes
-pub mod NetPaths
-pub mod NestedNet
+pub mod Ranked
 pub mod NestLaws
-pub mod NetOnce
 pub mod Ordered
 pub mod Arcs
 -- The functions' own lemmas.

@@ -8,7 +8,7 @@ use Rattle.net_model.specs.Functions.{GoesOn, IsReached}
 use Rattle.net_model.specs.Loops.{IsBackArc, IsHeader, IsInBody, IsNamedBy, IsUnbounded, source}
 use Rattle.loop_nest.proofs.Dominance.{body-behind, same_or_other}
 use Rattle.loop_nest.proofs.ForwardWays.{AreToldApart}
-use Rattle.loop_nest.proofs.NetScopes.{IsRanked}
+use Rattle.loop_nest.proofs.Ranked.{IsRanked}
 use Rattle.loop_nest.proofs.Ordered.{cases-in, first-in, later-in, nothing-in}
 
 -- A number stands in a list, or it doesn't.

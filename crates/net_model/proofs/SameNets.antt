@@ -1,14 +1,11 @@
--- Images with the same contents and records have the same loops and nets.
+-- Images with the same contents and records have the same loops.
 use Rattle.std.proofs.Common.{◌≡◌, ℕ, ◌<◌, inl, inr, List, [], ◌∷◌, get_or, Contains, refl, sym, subst}
 use Rattle.elf_mips.specs.declared.image.Image.{Image}
 use Rattle.elf_mips.specs.declared.mark.Mark.{Mark}
-use Rattle.flow_net.specs.declared.net.LoopInst.{LoopInst}
-use Rattle.flow_net.specs.declared.net.Net.{Net}
 use Rattle.net_model.specs.declared.unit.CodeUnit.{CodeUnit}
 use Rattle.net_model.specs.declared.unit.Content.TheVariants.{Unit as Stands}
 use Rattle.net_model.specs.Loops.{GoesForward, IsBackArc, IsForwardWay, IsHeader, IsInBody, IsInnermost, IsIrreducible, IsLoopBound, IsNamedBy, IsReachedWithout, IsUnbounded}
 use Rattle.net_model.specs.Loops.{before as before_body, begins as begins_without, goes as goes_without, head as head_body, source as source_body}
-use Rattle.net_model.specs.Net.{IsInstance, IsNet, IsNextOutward, IsOuterOf, IsScopeOf, LeadsOn, LeadsTo}
 use Rattle.net_model.proofs.SameCode.{IsSameCode, goes-same, reached-same, stands-same}
 
 pub turned : (a b : Image) → IsSameCode a b → IsSameCode b a
@@ -94,69 +91,4 @@ irreducible-same a b entry address same cycle = record {
   more = cycle.more;
   begins = forward-same a b entry address cycle.later same cycle.begins;
   back = forward_way-same a b entry same cycle.more cycle.later address cycle.back;
-}
-
--- The net of a function.
-next-same : (a b : Image) (entry header outer : ℕ) → IsSameCode a b → IsNextOutward a entry header outer → IsNextOutward b entry header outer
-next-same a b entry header outer same next = record {
-  around = body-same a b entry outer same header next.around;
-  other = next.other;
-  inner = λ another differ body.
-      body-same a b entry another same outer (next.inner another differ (body-same b a entry another (turned a b same) header body));
-}
-
-scope-same : (a b : Image) (entry : ℕ) (net : Net) (address scope : ℕ) → IsSameCode a b → IsScopeOf a entry net address scope →
-    IsScopeOf b entry net address scope
-scope-same a b entry net address scope same (inl (none_scope, none)) =
-    inl (none_scope, λ header body. none header (body-same b a entry header (turned a b same) address body))
-scope-same a b entry net address scope same (inr (header, at, innermost)) =
-    inr (header, at, innermost-same a b entry header address same innermost)
-
-outer-same : (a b : Image) (entry : ℕ) (net : Net) (header scope : ℕ) → IsSameCode a b → IsOuterOf a entry net header scope →
-    IsOuterOf b entry net header scope
-outer-same a b entry net header scope same (inl (none_scope, none)) =
-    inl (none_scope, λ other differ body. none other differ (body-same b a entry other (turned a b same) header body))
-outer-same a b entry net header scope same (inr (outer, at, next)) = inr (outer, at, next-same a b entry header outer same next)
-
-instance-same : (a b : Image) (entry : ℕ) (net : Net) (inst : LoopInst) → IsSameCode a b → IsInstance a entry net inst → IsInstance b entry net inst
-instance-same a b entry net inst same one = record {
-  header = one.header;
-  at = one.at;
-  headed = header-same a b entry one.header same one.headed;
-  bounded = bound-same a b entry one.header inst.bound same one.bounded;
-  outer = outer-same a b entry net one.header inst.outer same one.outer;
-}
-
-leads_to-same : (a b : Image) (net : Net) (unit : CodeUnit) (address to : ℕ) → IsSameCode a b → LeadsTo a net unit address to → LeadsTo b net unit address to
-leads_to-same a b net unit address to same (inl (later, on, at)) = inl (later, goes-same a b same address later on, at)
-leads_to-same a b net unit address to same (inr back) = inr back
-
-leads-same : (a b : Image) (net : Net) (from to : ℕ) → IsSameCode a b → LeadsOn a net from to → LeadsOn b net from to
-leads-same a b net from to same leads = record {
-  place = leads.place;
-  there = leads.there;
-  unit = leads.unit;
-  stands = stands-same a b leads.place.address (Stands leads.unit) same leads.stands;
-  leads = leads_to-same a b net leads.unit leads.place.address to same leads.leads;
-}
-
-pub net-same : (a b : Image) (entry : ℕ) (net : Net) → IsSameCode a b → IsNet a entry net → IsNet b entry net
-net-same a b entry net same is = record {
-  contexts = is.contexts;
-  loops = record {
-    rising = is.loops.rising;
-    each = λ k d inside. instance-same a b entry net (get_or net.loops k d) same (is.loops.each k d inside);
-    whole = λ header headed. is.loops.whole header (header-same b a entry header (turned a b same) headed);
-    scopes = λ k d inside.
-        scope-same a b entry net (get_or net.places k d).address (get_or net.places k d).scope same (is.loops.scopes k d inside);
-  };
-  accesses = is.accesses;
-  flat = is.flat;
-  rising = is.rising;
-  reached = λ k d inside. reached-same a b same entry (get_or net.places k d).address (is.reached k d inside);
-  whole = λ address reached. is.whole address (reached-same b a (turned a b same) entry address reached);
-  first = is.first;
-  ways = λ number arc there more. leads-same a b net arc.from arc.to same (is.ways number arc there more);
-  arcs = λ from to leads. is.arcs from to (leads-same b a net from to (turned a b same) leads);
-  order = is.order;
 }

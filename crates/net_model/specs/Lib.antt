@@ -8,5 +8,10 @@ pub mod Faults
 pub mod Loops
 pub mod Reached
 pub mod Ways
+pub mod Contexts
+pub mod Places
+pub mod Instances
+pub mod Accesses
 pub mod Net
+pub mod Runs
 pub mod Moments

@@ -1,0 +1,2 @@
+-- Laws of the net of a program.
+pub mod Items

@@ -1,0 +1,3 @@
+-- What the net of a program says of it.
+pub mod Sizes
+pub mod Programs

@@ -1,0 +1,55 @@
+-- Programs that have a net, and what is answered of the others.
+use Rattle.std.specs.Prelude.{◌≡◌, ℕ, ◌<◌, ◌^◌, ◌⊎◌, min, All}
+use Rattle.elf_mips.specs.declared.image.Image.{Image}
+use Rattle.flow_net.specs.declared.net.Net.{Net}
+use Rattle.flow_net.specs.declared.net.Place.{Place}
+use Rattle.loop_nest.specs.Programs.{AreNests}
+use Rattle.loop_nest.specs.declared.nest.Nests.{Nests}
+use Rattle.net_model.specs.Faults.{HasNoFault}
+use Rattle.net_model.specs.Functions.{CanReturn}
+use Rattle.net_model.specs.Targets.{unit_at}
+use Rattle.net_model.specs.declared.unit.CodeUnit.{CodeUnit}
+use Rattle.net_model.specs.declared.unit.Content.TheVariants.{Unit as Stands}
+use Rattle.unit_graph.specs.Graphs.{AreGraphs}
+use Rattle.unit_graph.specs.declared.graph.Graphs.{Graphs}
+use Rattle.call_contexts.specs.Sizes.{AreSizes, most_contexts, most_places}
+use Rattle.call_contexts.specs.declared.fault.NetFault.{NetFault}
+use Rattle.call_contexts.specs.declared.fault.NetFault.TheVariants.{NeverReturns, TooMany, Memory}
+
+-- The graphs and the loops of a program's functions, whose code has no fault.
+pub record IsProgram (image : Image) (entry : ℕ) (graphs : Graphs) (nests : Nests) : Type 0 where
+  pub graphs_are : AreGraphs image entry graphs
+  pub nests_are : AreNests image graphs nests
+  pub faultless : HasNoFault image entry
+
+-- A unit stands at the address of each place.
+pub record IsUnitOf (image : Image) (place : Place) : Type 0 where
+  pub unit : CodeUnit
+  pub stands : unit_at image place.address ≡ Stands unit
+
+abbrev pub HasUnits : Image → Net → Type 0
+HasUnits image net = All (IsUnitOf image) net.places
+
+-- No unit that the entry function reaches returns.
+abbrev pub HasNoReturn : Image → ℕ → Type 0
+HasNoReturn image entry = CanReturn image entry → ⊥
+
+-- A program has more contexts or places than a net may have.
+abbrev pub AreTooMany : (contexts places : ℕ) → Type 0
+AreTooMany contexts places = (most_contexts < contexts) ⊎ (most_places < places)
+
+-- The numbers of contexts and places as they are told: each at most 2^63.
+pub record HasTooMany (image : Image) (entry contexts places : ℕ) : Type 0 where
+  pub all_contexts : ℕ
+  pub all_places : ℕ
+  pub sizes : AreSizes image entry all_contexts all_places
+  pub many : AreTooMany all_contexts all_places
+  pub contexts_told : contexts ≡ min all_contexts (2 ^ 63)
+  pub places_told : places ≡ min all_places (2 ^ 63)
+
+-- What a fault says of a program: that its entry function never returns, or else that it has too many contexts or
+-- places. Want of memory says nothing.
+abbrev pub TellsFault : Image → (entry : ℕ) → NetFault → Type 0
+TellsFault image entry NeverReturns = HasNoReturn image entry
+TellsFault image entry (TooMany contexts places) = CanReturn image entry × HasTooMany image entry contexts places
+TellsFault image entry Memory = Unit {0}
