@@ -2,3 +2,4 @@
 pub mod Items
 -- The net is nested.
 pub mod NetItems
+pub mod Numerals
