@@ -3,3 +3,4 @@ pub mod Items
 -- The net is nested.
 pub mod NetItems
 pub mod Numerals
+pub mod NetRanks
