@@ -4,3 +4,4 @@ pub mod Items
 pub mod NetItems
 pub mod Numerals
 pub mod NetRanks
+pub mod NetScopes
