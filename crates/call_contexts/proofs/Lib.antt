@@ -5,3 +5,4 @@ pub mod NetItems
 pub mod Numerals
 pub mod NetRanks
 pub mod NetScopes
+pub mod NetPaths
