@@ -6,3 +6,4 @@ pub mod Numerals
 pub mod NetRanks
 pub mod NetScopes
 pub mod NetPaths
+pub mod NetNumbers
