@@ -7,3 +7,5 @@ pub mod NetRanks
 pub mod NetScopes
 pub mod NetPaths
 pub mod NetNumbers
+pub mod Entering
+pub mod NestedNet
