@@ -1,48 +1,29 @@
 -- An arc into a loop instance from outside goes to its header, also where it calls or returns.
-use Rattle.std.proofs.Common.{◌≡◌, ℕ, zero, suc, ◌+◌, ◌<◌, ◌≤◌, ◌⊎◌, ◌==◌, inl, inr, true, List, [], ◌∷◌, length, slice_get, map, All, Contains, Option, Some, None, refl, sym, ap, subst, ◌∙◌, arith}
-use Rattle.std.specs.List.{AllZip}
-use Rattle.std.proofs.lemmas.Bool.{cases_eq}
-use Rattle.std.proofs.lemmas.Bool.Decides.{nat_tests}
+use Rattle.std.proofs.Common.{◌≡◌, ℕ, ◌+◌, ◌<◌, ◌⊎◌, inl, inr, true, slice_get, Some, refl, sym, ap, subst, ◌∙◌, arith}
 use Rattle.std.proofs.lemmas.Option.{none-some}
-use Rattle.std.proofs.lemmas.List.Elements.{All-contains}
 use Rattle.elf_mips.specs.declared.image.Image.{Image}
-use Rattle.elf_mips.specs.declared.mark.Mark.{Mark}
-use Rattle.elf_mips.specs.Marks.{is_lawful}
-use Rattle.flow_net.specs.Nested.{HasRanks, IsBack, IsEntered, IsNested}
-use Rattle.flow_net.specs.Numbers.{IsNumberOrZero, item_at}
-use Rattle.flow_net.specs.Paths.{IsRunPath}
-use Rattle.flow_net.specs.Scopes.{HasScopes, Holds}
+use Rattle.flow_net.specs.Numbers.{item_at}
+use Rattle.flow_net.specs.Scopes.{Holds}
 use Rattle.flow_net.specs.declared.net.Context.{Context}
 use Rattle.flow_net.specs.declared.net.LoopInst.{LoopInst}
 use Rattle.flow_net.specs.declared.net.Net.{Net}
 use Rattle.flow_net.specs.declared.net.NetArc.{NetArc}
-use Rattle.flow_net.specs.declared.net.Place.{Place}
-use Rattle.loop_nest.specs.Programs.{IsNestOf}
-use Rattle.loop_nest.specs.declared.nest.Loop.{Loop}
-use Rattle.loop_nest.specs.declared.nest.Nests.{Nests}
 use Rattle.loop_nest.proofs.Dominance.{entered-at-header, entry-header, same_or_other}
-use Rattle.loop_nest.proofs.NestLaws.{nest-ranked}
-use Rattle.loop_nest.proofs.Ordered.{cases-in, nothing-in}
-use Rattle.loop_nest.proofs.Ranked.{IsRanked}
-use Rattle.net_model.specs.Contexts.{AreContexts, Reaches, made_by, root}
-use Rattle.net_model.specs.Functions.{CallsAt, CanReturn, GoesOn, IsFunction, IsReached, back, first, further, main, next, onward, returned}
-use Rattle.net_model.specs.Instances.{HoldsUnit, IsInBodyOf, IsLoopAt, IsOuterOf, IsScopeOf, body, made}
-use Rattle.net_model.specs.Loops.{IsBackArc, IsInBody, IsLoopBound, head, source}
-use Rattle.net_model.specs.Net.{IsNet, LeadsOn, LeadsTo, calls, comes_back, ends, goes}
+use Rattle.net_model.specs.Contexts.{Reaches, made_by, root}
+use Rattle.net_model.specs.Functions.{CallsAt, CanReturn, GoesOn, IsReached, back, onward, returned}
+use Rattle.net_model.specs.Instances.{HoldsUnit, IsLoopAt, body, made}
+use Rattle.net_model.specs.Loops.{IsInBody}
+use Rattle.net_model.specs.Net.{IsNet, LeadsTo, calls, comes_back, ends, goes}
 use Rattle.net_model.specs.Onward.{returns}
 use Rattle.net_model.specs.Places.{IsPlaceOf}
 use Rattle.net_model.specs.Targets.{unit_at}
 use Rattle.net_model.specs.declared.unit.CodeUnit.{CodeUnit}
 use Rattle.net_model.specs.declared.unit.Content.TheVariants.{Unit as Stands}
-use Rattle.unit_graph.specs.declared.graph.Graph.{Graph}
-use Rattle.unit_graph.specs.declared.graph.Graphs.{Graphs}
-use Rattle.call_contexts.specs.Programs.{IsProgram}
-use Rattle.call_contexts.proofs.Items.{item-one, item-positive, item-within, rising-once}
-use Rattle.call_contexts.proofs.NetItems.{all-by, context-at, own-place, place-once, place-positive, place-reached, place-unit, placed-at}
-use Rattle.call_contexts.proofs.NetNumbers.{numbers-own}
-use Rattle.call_contexts.proofs.NetPaths.{ArcOf, ComesTo, Enters, IsArcOf, Leads, arc-of, arc-out, comes-to, leads-from}
-use Rattle.call_contexts.proofs.NetRanks.{AreRanked, back-rises, contexts-earlier, forward-rises, made-rises, numeral-of}
-use Rattle.call_contexts.proofs.NetScopes.{LoopHere, chains-end, holds-loop, holds-unit, unit-holds}
+use Rattle.call_contexts.proofs.Items.{item-one}
+use Rattle.call_contexts.proofs.NetItems.{context-at, own-place, place-once, place-reached}
+use Rattle.call_contexts.proofs.NetPaths.{Enters, IsArcOf, Leads}
+use Rattle.call_contexts.proofs.NetRanks.{AreRanked}
+use Rattle.call_contexts.proofs.NetScopes.{LoopHere, holds-unit, unit-holds}
 
 -- A call whose function can return goes on behind its slot.
 pub call-back : (image : Image) (site callee : ℕ) → CallsAt image site callee → CanReturn image callee → GoesOn image site (site + 8)
@@ -106,21 +87,33 @@ module _ (image : Image) (entry : ℕ) (net : Net) (is : IsNet image entry net) 
   entering-unit : (scope from to context address : ℕ) (unit : CodeUnit) (loop : LoopHere net scope) → IsPlaceOf net from context address →
       unit_at image address ≡ Stands unit → (Holds net scope from → ⊥) → Holds net scope to → LeadsTo image net unit context address to →
       (other later : ℕ) × (IsPlaceOf net to other later) × IsLoopAt net scope other later
-  entering-unit scope from _ context address unit loop at stands outside into (goes to later listed behind) =
-      (context, later, behind, enters-on image net scope context later address (place-reached image entry net is from context address at)
-      (onward address later unit stands listed) (λ held. outside (unit-holds image entry net is ranked scope from context address at held))
-      (holds-unit image entry net is scope to context later loop behind into))
-  entering-unit scope from _ context address unit loop at stands outside into (calls to new callee listed positive there behind) =
-      (new, callee, behind, enters-call image net scope new callee context address there
-      (λ held. outside (unit-holds image entry net is ranked scope from context address at held))
-      (holds-unit image entry net is scope to new callee loop behind into))
-  entering-unit scope from _ context address unit loop at stands outside into (comes_back to of leaves positive there behind) =
-      (of.parent, of.site + 8, behind, enters-on image net scope of.parent (of.site + 8) of.site
-      (is.contexts.made context of there positive).there
-      (return-on image entry net is context address of unit there positive
-      (place-reached image entry net is from context address at) stands leaves)
-      (λ held. outside (unit-holds image entry net is ranked scope from context address at (made context address of there positive held)))
-      (holds-unit image entry net is scope to of.parent (of.site + 8) loop behind into))
+  entering-unit scope from _ context address unit loop at stands outside into (goes to later listed behind) = (
+    context,
+    later,
+    behind,
+    enters-on image net scope context later address (place-reached image entry net is from context address at)
+        (onward address later unit stands listed) (λ held. outside (unit-holds image entry net is ranked scope from context address at held))
+        (holds-unit image entry net is scope to context later loop behind into),
+  )
+  entering-unit scope from _ context address unit loop at stands outside into (calls to new callee listed positive there behind) = (
+    new,
+    callee,
+    behind,
+    enters-call image net scope new callee context address there
+        (λ held. outside (unit-holds image entry net is ranked scope from context address at held))
+        (holds-unit image entry net is scope to new callee loop behind into),
+  )
+  entering-unit scope from _ context address unit loop at stands outside into (comes_back to of leaves positive there behind) = (
+    of.parent,
+    of.site + 8,
+    behind,
+    enters-on image net scope of.parent (of.site + 8) of.site
+        (is.contexts.made context of there positive).there
+        (return-on image entry net is context address of unit there positive
+        (place-reached image entry net is from context address at) stands leaves)
+        (λ held. outside (unit-holds image entry net is ranked scope from context address at (made context address of there positive held)))
+        (holds-unit image entry net is scope to of.parent (of.site + 8) loop behind into),
+  )
   entering-unit scope from _ context address unit loop at stands outside into (ends leaves same) =
       absurd (none-some into.place into.there)
 

@@ -1,9 +1,6 @@
 -- The net of a program is nested.
-use Rattle.std.proofs.Common.{◌≡◌, ℕ, zero, suc, ◌+◌, ◌<◌, ◌≤◌, ◌⊎◌, ◌==◌, inl, inr, true, List, [], ◌∷◌, length, slice_get, map, All, Contains, Option, Some, None, refl, sym, ap, subst, ◌∙◌, arith}
-use Rattle.std.specs.List.{AllZip}
-use Rattle.std.proofs.lemmas.Bool.{cases_eq}
+use Rattle.std.proofs.Common.{◌≡◌, ℕ, ◌+◌, ◌<◌, ◌≤◌, inl, inr, true, length, slice_get, Option, Some, None, refl, ap, subst, ◌∙◌, arith}
 use Rattle.std.proofs.lemmas.Bool.Decides.{nat_tests}
-use Rattle.std.proofs.lemmas.Option.{none-some}
 use Rattle.std.proofs.lemmas.List.Elements.{All-contains}
 use Rattle.elf_mips.specs.declared.image.Image.{Image}
 use Rattle.elf_mips.specs.declared.mark.Mark.{Mark}
@@ -17,34 +14,25 @@ use Rattle.flow_net.specs.declared.net.LoopInst.{LoopInst}
 use Rattle.flow_net.specs.declared.net.Net.{Net}
 use Rattle.flow_net.specs.declared.net.NetArc.{NetArc}
 use Rattle.flow_net.specs.declared.net.Place.{Place}
-use Rattle.loop_nest.specs.Programs.{IsNestOf}
-use Rattle.loop_nest.specs.declared.nest.Loop.{Loop}
 use Rattle.loop_nest.specs.declared.nest.Nests.{Nests}
-use Rattle.loop_nest.proofs.Dominance.{entered-at-header, entry-header, same_or_other}
-use Rattle.loop_nest.proofs.NestLaws.{nest-ranked}
-use Rattle.loop_nest.proofs.Ordered.{cases-in, nothing-in}
-use Rattle.loop_nest.proofs.Ranked.{IsRanked}
-use Rattle.net_model.specs.Contexts.{AreContexts, Reaches, made_by, root}
-use Rattle.net_model.specs.Functions.{CallsAt, CanReturn, GoesOn, IsFunction, IsReached, back, first, further, main, next, onward, returned}
-use Rattle.net_model.specs.Instances.{HoldsUnit, IsInBodyOf, IsLoopAt, IsOuterOf, IsScopeOf, body, made}
-use Rattle.net_model.specs.Loops.{IsBackArc, IsInBody, IsLoopBound, head, source}
-use Rattle.net_model.specs.Net.{IsNet, LeadsOn, LeadsTo, calls, comes_back, ends, goes}
-use Rattle.net_model.specs.Onward.{returns}
+use Rattle.net_model.specs.Contexts.{made_by}
+use Rattle.net_model.specs.Functions.{CanReturn, onward}
+use Rattle.net_model.specs.Instances.{HoldsUnit, IsOuterOf, IsScopeOf, body, made}
+use Rattle.net_model.specs.Loops.{IsBackArc, IsLoopBound, head, source}
+use Rattle.net_model.specs.Net.{IsNet, LeadsTo, calls, comes_back, ends, goes}
 use Rattle.net_model.specs.Places.{IsPlaceOf}
 use Rattle.net_model.specs.Targets.{unit_at}
 use Rattle.net_model.specs.declared.unit.CodeUnit.{CodeUnit}
 use Rattle.net_model.specs.declared.unit.Content.TheVariants.{Unit as Stands}
-use Rattle.unit_graph.specs.declared.graph.Graph.{Graph}
 use Rattle.unit_graph.specs.declared.graph.Graphs.{Graphs}
 use Rattle.call_contexts.specs.Programs.{IsProgram}
 use Rattle.call_contexts.proofs.Entering.{entering-arc, return-on}
-use Rattle.call_contexts.proofs.Items.{item-one, item-positive, item-within, rising-once}
-use Rattle.call_contexts.proofs.NetItems.{all-by, context-at, own-place, place-once, place-positive, place-reached, place-unit, placed-at, loop-within}
+use Rattle.call_contexts.proofs.Items.{rising-once}
+use Rattle.call_contexts.proofs.NetItems.{all-by, own-place, place-once, place-positive, place-reached, placed-at, loop-within}
 use Rattle.call_contexts.proofs.NetNumbers.{numbers-own}
-use Rattle.call_contexts.proofs.NetPaths.{ArcOf, ComesTo, Enters, IsArcOf, Leads, arc-of, arc-out, comes-to, leads-from}
-use Rattle.call_contexts.proofs.NetRanks.{AreRanked, back-rises, contexts-earlier, forward-rises, made-rises, numeral-of}
-use Rattle.call_contexts.proofs.NetScopes.{LoopHere, chains-end, holds-loop, holds-unit, unit-holds}
-
+use Rattle.call_contexts.proofs.NetPaths.{Enters, IsArcOf, Leads, arc-of, arc-out, comes-to, leads-from}
+use Rattle.call_contexts.proofs.NetRanks.{AreRanked, back-rises, contexts-earlier, forward-rises, made-rises, numeral-of, program-ranked}
+use Rattle.call_contexts.proofs.NetScopes.{chains-end, holds-loop, unit-holds}
 
 module _ (image : Image) (entry : ℕ) (net : Net) (is : IsNet image entry net) (ranked : AreRanked image net.contexts) where
   -- Along each arc that is no back arc the numbers rise.
@@ -78,24 +66,36 @@ module _ (image : Image) (entry : ℕ) (net : Net) (is : IsNet image entry net) 
       0 < to → (IsBack net (record { from = from; to = to }) → ⊥) → LeadsTo image net unit context address to →
       (other later : ℕ) × (IsPlaceOf net to other later) × (numeral-of image net ranked context address < numeral-of image net ranked other later)
   rises-by from _ context address unit at stands arrives forward (goes to later listed behind) =
-      let reaches = place-reached image entry net is from context address at in
-      (context, later, behind, forward-rises image net ranked context reaches.context reaches.there address later reaches.reached (record {
-        goes = onward address later unit stands listed;
-        forward = λ arc. forward (back-arc from to context address context address later reaches.context at behind reaches.there arc
-            (λ scope held. held));
-      }))
-  rises-by from _ context address unit at stands arrives forward (calls to new callee listed positive there behind) =
-      (new, callee, behind, made-rises image net ranked (contexts-earlier image entry net.contexts is.contexts) new
-      (made_by context address callee) callee there positive)
+      let reaches = place-reached image entry net is from context address at in (
+        context,
+        later,
+        behind,
+        forward-rises image net ranked context reaches.context reaches.there address later reaches.reached (record {
+          goes = onward address later unit stands listed;
+          forward = λ arc. forward (back-arc from to context address context address later reaches.context at behind reaches.there arc
+              (λ scope held. held));
+        }),
+      )
+  rises-by from _ context address unit at stands arrives forward (calls to new callee listed positive there behind) = (
+    new,
+    callee,
+    behind,
+    made-rises image net ranked (contexts-earlier image entry net.contexts is.contexts) new
+        (made_by context address callee) callee there positive,
+  )
   rises-by from _ context address unit at stands arrives forward (comes_back to of leaves positive there behind) =
-      let over = (is.contexts.made context of there positive).there in
-      (of.parent, of.site + 8, behind, back-rises image net ranked (contexts-earlier image entry net.contexts is.contexts)
-      context of over.context from address (of.site + 8) there positive at over.there over.reached (record {
-        goes = return-on image entry net is context address of unit there positive
-            (place-reached image entry net is from context address at) stands leaves;
-        forward = λ arc. forward (back-arc from to context address of.parent of.site (of.site + 8) over.context at behind over.there arc
-            (λ scope held. made context address of there positive held));
-      }))
+      let over = (is.contexts.made context of there positive).there in (
+        of.parent,
+        of.site + 8,
+        behind,
+        back-rises image net ranked (contexts-earlier image entry net.contexts is.contexts)
+            context of over.context from address (of.site + 8) there positive at over.there over.reached (record {
+              goes = return-on image entry net is context address of unit there positive
+                  (place-reached image entry net is from context address at) stands leaves;
+              forward = λ arc. forward (back-arc from to context address of.parent of.site (of.site + 8) over.context at behind over.there arc
+                  (λ scope held. made context address of there positive held));
+            }),
+      )
   rises-by from _ context address unit at stands arrives forward (ends leaves same) = absurd (omega (arith, arrives))
 
   rises-along : (number : ℕ) (arc : NetArc) → 0 < arc.from → 0 < arc.to → (IsBack net arc → ⊥) → IsArcOf image entry net number arc →
@@ -192,38 +192,6 @@ ranked-nested image entry net is ranked can = record {
       entering-arc image entry net is ranked number scope arc inst there into outside (arc-of image entry net is number arc arc_there);
   ranks = net-ranks image entry net is ranked;
 }
-
--- The functions of a program have ranks, by their loops.
-listed-ranked : (image : Image) (function : ℕ) (graphs : List Graph) (nests : List (List Loop)) → AllZip (IsNestOf image) graphs nests →
-    Contains (map (λ (g : Graph). g.entry) graphs) function → IsRanked image function
-listed-ranked image function [] nests zip there = absurd (nothing-in function there)
-listed-ranked image function (graph ∷ graphs) [] zip there = absurd zip
-listed-ranked image function (graph ∷ graphs) (loops ∷ nests) zip there =
-    elim (cases-in graph.entry (map (λ (g : Graph). g.entry) graphs) function there) [
-      | inl same ↦ subst (IsRanked image) same (nest-ranked image graph.entry loops zip.0)
-      | inr behind ↦ listed-ranked image function graphs nests zip.1 behind
-    ]
-
--- The contexts of a program are those of its functions.
-pub context-function : (image : Image) (entry : ℕ) (contexts : List Context) → AreContexts image entry contexts → (n number : ℕ) (of : Context) →
-    number < n → slice_get contexts number ≡ Some of → IsFunction image entry of.target
-context-function image entry contexts are zero number of low there = absurd (omega (arith, low))
-context-function image entry contexts are (suc n) number of low there = elim (cases_eq number 0) as (λ _. IsFunction image entry of.target) [
-  | inl zero_number ↦
-      subst (λ (c : Context). IsFunction image entry c.target)
-      (context-at contexts 0 (root entry) of are.first (subst (λ (k : ℕ). slice_get contexts k ≡ Some of) zero_number there)) main
-  | inr later ↦
-      let by = are.made number of there (omega (arith, later)) in
-      further by.there.context.target of.target
-      (context-function image entry contexts are n of.parent by.there.context (omega (arith, by.earlier, low)) by.there.there)
-      (record { address = of.site; reached = by.there.reached; calls = by.calls })
-]
-
-pub program-ranked : (image : Image) (entry : ℕ) (graphs : Graphs) (nests : Nests) (net : Net) → IsProgram image entry graphs nests →
-    IsNet image entry net → AreRanked image net.contexts
-program-ranked image entry graphs nests net program is number of there =
-    listed-ranked image of.target graphs.graphs nests.nests program.nests_are
-    (program.graphs_are.whole of.target (context-function image entry net.contexts is.contexts (suc number) number of (omega arith) there))
 
 -- The net of a program whose entry function can return is nested.
 pub net-nested : (image : Image) (entry : ℕ) (graphs : Graphs) (nests : Nests) (net : Net) → IsProgram image entry graphs nests →

@@ -1,9 +1,9 @@
 -- The numbers in the net of a program are those of its own contexts and places.
-use Rattle.std.proofs.Common.{◌≡◌, ℕ, zero, suc, ◌+◌, ◌<◌, ◌≤◌, inl, inr, Bool, true, false, List, [], ◌∷◌, ◌++◌, length, slice_get, get_or, All, Option, Some, None, refl, sym, ap, subst, ◌∙◌, arith}
+use Rattle.std.proofs.Common.{◌≡◌, ℕ, zero, suc, ◌+◌, ◌<◌, ◌≤◌, inl, inr, Bool, true, false, List, [], ◌∷◌, ◌++◌, length, slice_get, get_or, All, Option, Some, None, refl, sym, ap, subst, arith}
 use Rattle.std.specs.Prelude.{is_some, if◌then◌else◌}
 use Rattle.std.proofs.lemmas.Bool.{cases_eq}
 use Rattle.std.proofs.lemmas.List.Elements.{All-append}
-use Rattle.std.proofs.lemmas.Option.{get_or_from_slice_get, slice_get-get_or, slice_get_within}
+use Rattle.std.proofs.lemmas.Option.{slice_get-get_or, slice_get_within}
 use Rattle.elf_mips.specs.declared.image.Image.{Image}
 use Rattle.flow_net.specs.Nested.{HasNumbers}
 use Rattle.flow_net.specs.Numbers.{IsNumberOf, IsNumberOrZero}
@@ -14,8 +14,8 @@ use Rattle.flow_net.specs.declared.net.Net.{Net}
 use Rattle.flow_net.specs.declared.net.NetArc.{NetArc}
 use Rattle.flow_net.specs.declared.net.Place.{Place}
 use Rattle.flow_net.specs.declared.net.Role.TheVariants.{Fetch, Slot, Load}
-use Rattle.net_model.specs.Accesses.{access, accesses_from, content_accesses, load_access, unit_accesses}
-use Rattle.net_model.specs.Contexts.{AreContexts, root}
+use Rattle.net_model.specs.Accesses.{access, accesses_from, content_accesses, load_access}
+use Rattle.net_model.specs.Contexts.{root}
 use Rattle.net_model.specs.Net.{IsNet, LeadsOn, LeadsTo, calls, comes_back, ends, goes}
 use Rattle.net_model.specs.Onward.{load_of}
 use Rattle.net_model.specs.Targets.{unit_at}
@@ -27,7 +27,7 @@ use Rattle.call_contexts.proofs.NetItems.{all-by, context-at, place-number, plac
 use Rattle.call_contexts.proofs.NetPaths.{Enters, IsArcOf, Leads, arc-of}
 
 -- The accesses of a place name its number.
-abbrev pub IsOf : ℕ → Access → Type 0
+abbrev IsOf : ℕ → Access → Type 0
 IsOf number access = access.place ≡ number
 
 all-more : {T : Type 0} (P : T → Type 0) (item : T) (more : List T) → P item → All P more → All P (item ∷ more)
@@ -72,8 +72,8 @@ module _ (image : Image) (entry : ℕ) (net : Net) (is : IsNet image entry net) 
   accesses-own : All (λ (a : Access). IsNumberOf net.places a.place) net.accesses
   accesses-own = subst (λ (accesses : List Access). All (λ (a : Access). IsNumberOf net.places a.place) accesses) (sym is.accesses)
       (λ i d inside.
-          let among = accesses-among image (length net.places) 1 net.places (omega arith) (omega arith) i d inside in
-          record { from_one = among.0; within = among.1 })
+      let among = accesses-among image (length net.places) 1 net.places (omega arith) (omega arith) i d inside in
+      record { from_one = among.0; within = among.1 })
 
   context-own : (number : ℕ) (of : Context) → slice_get net.contexts number ≡ Some of → number < length net.contexts
   context-own number of there = slice_get_within net.contexts number of there

@@ -1,5 +1,5 @@
 -- The arcs of a net: what each is, and that a path comes to each place.
-use Rattle.std.proofs.Common.{◌≡◌, ℕ, zero, suc, ◌+◌, ◌<◌, ◌≤◌, inl, inr, true, List, [], ◌∷◌, ◌++◌, Contains, slice_get, Some, refl, sym, ap, subst, ◌∙◌, arith}
+use Rattle.std.proofs.Common.{◌≡◌, ℕ, zero, suc, ◌+◌, ◌<◌, inl, inr, List, [], ◌∷◌, ◌++◌, Contains, slice_get, Some, refl, sym, ap, subst, ◌∙◌, arith}
 use Rattle.std.proofs.lemmas.Bool.{cases_eq}
 use Rattle.std.proofs.lemmas.Option.{none-some}
 use Rattle.elf_mips.specs.declared.image.Image.{Image}
@@ -12,7 +12,6 @@ use Rattle.net_model.specs.Contexts.{Reaches, made_by, root}
 use Rattle.net_model.specs.Flow.{called}
 use Rattle.net_model.specs.Functions.{CanReturn, GoesOn, IsReached, back, first, next, onward, returned}
 use Rattle.net_model.specs.Net.{IsNet, LeadsOn, LeadsTo, calls, comes_back, ends, goes}
-use Rattle.net_model.specs.Onward.{returns}
 use Rattle.net_model.specs.Places.{IsPlaceOf}
 use Rattle.net_model.specs.Targets.{unit_at}
 use Rattle.net_model.specs.declared.unit.CodeUnit.{CodeUnit}
@@ -133,7 +132,12 @@ module _ (image : Image) (entry : ℕ) (net : Net) (is : IsNet image entry net) 
         (record { unit = unit; stands = stands; called = listed }) in
         let call = call-way number context address new.0 callee unit way stands listed new.1 new.2 in
         let home = return-way callee can call.to new.0 (made_by context address callee) new.2 refl new.1 call.at to at in
-        record { to = home.to; at = home.at; numbers = call.numbers ++ home.numbers; path = path-append net.arcs call.numbers home.numbers number call.to home.to call.path home.path }
+        record {
+          to = home.to;
+          at = home.at;
+          numbers = call.numbers ++ home.numbers;
+          path = path-append net.arcs call.numbers home.numbers number call.to home.to call.path home.path;
+        }
 
     return-way : (function : ℕ) → CanReturn image function → (number context : ℕ) (of : Context) →
         slice_get net.contexts context ≡ Some of → of.target ≡ function → 0 < context → IsPlaceOf net number context function →

@@ -1,20 +1,31 @@
 -- The numbers of a net's places: they rise along its ways without back arcs, its calls, and its returns where the way
 -- behind the call is no back arc. A loop's header has the least number of what its instance holds.
-use Rattle.std.proofs.Common.{◌≡◌, ℕ, zero, suc, ◌+◌, ◌<◌, ◌≤◌, List, length, slice_get, Option, Some, None, refl, sym, ap, subst, ◌∙◌, arith}
+use Rattle.std.proofs.Common.{◌≡◌, ℕ, zero, suc, ◌<◌, ◌≤◌, inl, inr, List, [], ◌∷◌, Contains, map, length, slice_get, Option, Some, None, refl, sym, ap, subst, ◌∙◌, arith}
+use Rattle.std.specs.List.{AllZip}
+use Rattle.std.proofs.lemmas.Bool.{cases_eq}
 use Rattle.std.proofs.lemmas.Option.{none-some, same_Some, slice_get_within}
 use Rattle.elf_mips.specs.declared.image.Image.{Image}
 use Rattle.flow_net.specs.Numbers.{item_at}
 use Rattle.flow_net.specs.declared.net.Context.{Context}
 use Rattle.flow_net.specs.declared.net.Net.{Net}
 use Rattle.flow_net.specs.declared.net.Place.{Place}
-use Rattle.net_model.specs.Contexts.{AreContexts}
-use Rattle.net_model.specs.Functions.{IsReached}
+use Rattle.unit_graph.specs.declared.graph.Graph.{Graph}
+use Rattle.unit_graph.specs.declared.graph.Graphs.{Graphs}
+use Rattle.net_model.specs.Contexts.{AreContexts, root}
+use Rattle.net_model.specs.Functions.{IsFunction, IsReached, further, main}
 use Rattle.net_model.specs.Loops.{GoesForward, HasRanks, IsInBody}
+use Rattle.net_model.specs.Net.{IsNet}
 use Rattle.net_model.specs.Places.{IsPlaceOf}
+use Rattle.loop_nest.specs.Programs.{IsNestOf}
+use Rattle.loop_nest.specs.declared.nest.Loop.{Loop}
+use Rattle.loop_nest.specs.declared.nest.Nests.{Nests}
 use Rattle.loop_nest.proofs.HeaderRank.{header-rank}
+use Rattle.loop_nest.proofs.NestLaws.{nest-ranked}
+use Rattle.loop_nest.proofs.Ordered.{cases-in, nothing-in}
 use Rattle.loop_nest.proofs.Ranked.{IsRanked, inner-rank}
+use Rattle.call_contexts.specs.Programs.{IsProgram}
+use Rattle.call_contexts.proofs.NetItems.{context-at, place-within}
 use Rattle.call_contexts.proofs.Numerals.{AreEarlier, call-rises, numeral, numeral-least, numeral-rises, return-rises, total, total-least}
-use Rattle.call_contexts.proofs.NetItems.{place-within}
 
 -- The functions of all contexts have ranks.
 abbrev pub AreRanked : Image → List Context → Type 0
@@ -108,3 +119,35 @@ module _ (image : Image) (net : Net) (ranked : AreRanked image net.contexts) whe
   header-less number of there header address body differ =
       numeral-rises net.contexts rank-in digits (length net.contexts) number header address
       (inner-rank image of.target (ranks-in number of there) (ranked number of there).told header address body differ)
+
+-- The functions of a program have ranks, by their loops.
+listed-ranked : (image : Image) (function : ℕ) (graphs : List Graph) (nests : List (List Loop)) → AllZip (IsNestOf image) graphs nests →
+    Contains (map (λ (g : Graph). g.entry) graphs) function → IsRanked image function
+listed-ranked image function [] nests zip there = absurd (nothing-in function there)
+listed-ranked image function (graph ∷ graphs) [] zip there = absurd zip
+listed-ranked image function (graph ∷ graphs) (loops ∷ nests) zip there =
+    elim (cases-in graph.entry (map (λ (g : Graph). g.entry) graphs) function there) [
+      | inl same ↦ subst (IsRanked image) same (nest-ranked image graph.entry loops zip.0)
+      | inr behind ↦ listed-ranked image function graphs nests zip.1 behind
+    ]
+
+-- The contexts of a program are those of its functions.
+pub context-function : (image : Image) (entry : ℕ) (contexts : List Context) → AreContexts image entry contexts → (n number : ℕ) (of : Context) →
+    number < n → slice_get contexts number ≡ Some of → IsFunction image entry of.target
+context-function image entry contexts are zero number of low there = absurd (omega (arith, low))
+context-function image entry contexts are (suc n) number of low there = elim (cases_eq number 0) as (λ _. IsFunction image entry of.target) [
+  | inl zero_number ↦
+      subst (λ (c : Context). IsFunction image entry c.target)
+      (context-at contexts 0 (root entry) of are.first (subst (λ (k : ℕ). slice_get contexts k ≡ Some of) zero_number there)) main
+  | inr later ↦
+      let by = are.made number of there (omega (arith, later)) in
+      further by.there.context.target of.target
+      (context-function image entry contexts are n of.parent by.there.context (omega (arith, by.earlier, low)) by.there.there)
+      (record { address = of.site; reached = by.there.reached; calls = by.calls })
+]
+
+pub program-ranked : (image : Image) (entry : ℕ) (graphs : Graphs) (nests : Nests) (net : Net) → IsProgram image entry graphs nests →
+    IsNet image entry net → AreRanked image net.contexts
+program-ranked image entry graphs nests net program is number of there =
+    listed-ranked image of.target graphs.graphs nests.nests program.nests_are
+    (program.graphs_are.whole of.target (context-function image entry net.contexts is.contexts (suc number) number of (omega arith) there))

@@ -1,5 +1,5 @@
 -- A loop instance holds just the places of the units that it holds by the bodies of loops and by calls.
-use Rattle.std.proofs.Common.{◌≡◌, ℕ, zero, suc, ◌<◌, ◌≤◌, ◌⊎◌, inl, inr, List, Option, Some, None, refl, sym, ap, subst, ◌∙◌, arith}
+use Rattle.std.proofs.Common.{◌≡◌, ℕ, zero, suc, ◌<◌, ◌≤◌, ◌⊎◌, inl, inr, List, Option, Some, None, ap, subst, ◌∙◌, arith}
 use Rattle.std.proofs.lemmas.Option.{none-some}
 use Rattle.elf_mips.specs.declared.image.Image.{Image}
 use Rattle.flow_net.specs.Numbers.{item_at}
@@ -8,7 +8,7 @@ use Rattle.flow_net.specs.declared.net.Context.{Context}
 use Rattle.flow_net.specs.declared.net.LoopInst.{LoopInst}
 use Rattle.flow_net.specs.declared.net.Net.{Net}
 use Rattle.flow_net.specs.declared.net.Place.{Place}
-use Rattle.net_model.specs.Instances.{HoldsUnit, IsInBodyOf, IsInstance, IsLoopAt, IsNextOutward, IsOuterOf, IsScopeOf, body, made}
+use Rattle.net_model.specs.Instances.{HoldsUnit, IsInBodyOf, IsInstance, IsLoopAt, IsOuterOf, IsScopeOf, body, made}
 use Rattle.net_model.specs.Loops.{IsInBody}
 use Rattle.net_model.specs.Net.{IsNet}
 use Rattle.net_model.specs.Places.{IsPlaceOf}
