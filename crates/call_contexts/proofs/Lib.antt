@@ -2,3 +2,6 @@
 pub mod Items
 -- The net is nested.
 pub mod NetItems
+-- A program has one net.
+pub mod Keyed
+pub mod ContextsOnce
