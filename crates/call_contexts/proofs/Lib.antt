@@ -5,3 +5,5 @@ pub mod NetItems
 -- A program has one net.
 pub mod Keyed
 pub mod ContextsOnce
+pub mod ScopesOnce
+pub mod NetOnce
