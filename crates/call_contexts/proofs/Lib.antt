@@ -7,3 +7,7 @@ pub mod Keyed
 pub mod ContextsOnce
 pub mod ScopesOnce
 pub mod NetOnce
+-- A program has one number of contexts and one of places.
+pub mod GraphCalls
+pub mod SizesOnce
+pub mod SameSizes
