@@ -1,2 +1,4 @@
 -- Laws of the net of a program.
 pub mod Items
+-- The net is nested.
+pub mod NetItems
