@@ -2,3 +2,5 @@
 pub mod Items
 -- The net is nested.
 pub mod NetItems
+-- Runs go along paths.
+pub mod RunPaths
