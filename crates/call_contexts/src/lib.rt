@@ -1,8 +1,8 @@
 //! The net of a program: its functions in their contexts.
 #![tactic(auto)]
 
-mod fault;
 mod program;
+mod fault;
 
-pub use fault::NetFault;
 pub use program::expand;
+pub use fault::NetFault;
