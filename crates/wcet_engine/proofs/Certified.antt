@@ -13,20 +13,20 @@ use Rattle.wcet_engine.specs.declared.analysis.Refused.TheVariants.{Fault, Memor
 use Rattle.wcet_engine.specs.Code.{Certifies, IsCertified, TellsLargeNet, TellsTooLarge}
 use Rattle.wcet_engine.proofs.Following.{code-stands}
 
-pub certified : (image : Image) (profile : Profile) (net : Net) → IsNet image image.entry net → (result : Result Certificate Refused) →
-    IfOk result (Certifies image profile net) → IfOk result (IsCertified image profile)
-certified image profile net is (Ok certificate) certifies = record { net = net; is_net = is; certifies = certifies }
-certified image profile net is (Err refused) told = told
+pub certified : (image : Image) (profile : Profile) (entry : ℕ) (net : Net) → IsNet image entry net → (result : Result Certificate Refused) →
+    IfOk result (Certifies image profile net) → IfOk result (IsCertified image profile entry)
+certified image profile entry net is (Ok certificate) certifies = record { net = net; is_net = is; certifies = certifies }
+certified image profile entry net is (Err refused) told = told
 
-large-net : (image : Image) (profile : Profile) (net : Net) → IsNet image image.entry net → (refused : Refused) →
-    TellsLargeNet image profile net refused → TellsTooLarge image profile refused
-large-net image profile net is (Fault refusal) told = (told.0, told.1, record { net = net; is_net = is; large = told.2 })
-large-net image profile net is Memory told = tt
+large-net : (image : Image) (profile : Profile) (entry : ℕ) (net : Net) → IsNet image entry net → (refused : Refused) →
+    TellsLargeNet image profile entry net refused → TellsTooLarge image profile entry refused
+large-net image profile entry net is (Fault refusal) told = (told.0, record { net = net; is_net = is; large = told.1 })
+large-net image profile entry net is Memory told = tt
 
-pub too-large : (image : Image) (profile : Profile) (net : Net) → IsNet image image.entry net → (result : Result Certificate Refused) →
-    IfErr result (TellsLargeNet image profile net) → IfErr result (TellsTooLarge image profile)
-too-large image profile net is (Ok certificate) told = told
-too-large image profile net is (Err refused) told = large-net image profile net is refused told
+pub too-large : (image : Image) (profile : Profile) (entry : ℕ) (net : Net) → IsNet image entry net → (result : Result Certificate Refused) →
+    IfErr result (TellsLargeNet image profile entry net) → IfErr result (TellsTooLarge image profile entry)
+too-large image profile entry net is (Ok certificate) told = told
+too-large image profile entry net is (Err refused) told = large-net image profile entry net is refused told
 
 -- The places of a net are units without a fault.
 pub fits-image : (image : Image) (entry : ℕ) (net : Net) → IsNet image entry net → HasNoFault image entry → FitsImage image net

@@ -15,7 +15,7 @@ use Rattle.net_model.specs.Faults.{HasNoFault, IsFirstFault, Offends, faulty, re
 use Rattle.net_model.specs.Targets.{is_none, linked_content, links_elsewhere, targets_at}
 use Rattle.net_model.specs.Units.{Word, Holds, Lacks, content_at, content_of, is_transfer, known, with_slot, word_at}
 use Rattle.wcet_engine.specs.Code.{AreLoops, IsCodeRefusal, TellsCode}
-use Rattle.wcet_engine.specs.Faults.{IsCodeFault, refused_by}
+use Rattle.wcet_engine.specs.ProgramFaults.{IsCodeFault, refused_by}
 use Rattle.unit_graph.specs.Graphs.{TellsFault as TellsWords}
 use Rattle.unit_graph.specs.declared.fault.CodeFault.{CodeFault}
 use Rattle.unit_graph.specs.declared.fault.CodeFault.TheVariants.{Bad, Memory}
@@ -86,57 +86,57 @@ word-rank code.Irreducible is = absurd is
 word-rank code.NoBound is = absurd is
 
 -- Faults of addresses and calls are faults of the code, and those of lower ranks are such.
-offence-fault : (image : Image) (kind : CodeKind) (place : ℕ) → Offends image image.entry kind place → IsCodeFault kind image place
-offence-fault image code.WritableCode place offends = offends
-offence-fault image code.UnknownWord place offends = offends
-offence-fault image code.TransferInSlot place offends = offends
-offence-fault image code.UnknownTarget place offends = offends
-offence-fault image code.LinkRegister place offends = offends
-offence-fault image code.Recursion place offends = offends
-offence-fault image code.Irreducible place offends = absurd (offence-kind image image.entry code.Irreducible place offends)
-offence-fault image code.NoBound place offends = absurd (offence-kind image image.entry code.NoBound place offends)
+offence-fault : (image : Image) (entry : ℕ) (kind : CodeKind) (place : ℕ) → Offends image entry kind place → IsCodeFault kind image entry place
+offence-fault image entry code.WritableCode place offends = offends
+offence-fault image entry code.UnknownWord place offends = offends
+offence-fault image entry code.TransferInSlot place offends = offends
+offence-fault image entry code.UnknownTarget place offends = offends
+offence-fault image entry code.LinkRegister place offends = offends
+offence-fault image entry code.Recursion place offends = offends
+offence-fault image entry code.Irreducible place offends = absurd (offence-kind image entry code.Irreducible place offends)
+offence-fault image entry code.NoBound place offends = absurd (offence-kind image entry code.NoBound place offends)
 
-fault-offence : (image : Image) (kind : CodeKind) (place : ℕ) → code_rank kind < 6 → IsCodeFault kind image place → Offends image image.entry kind place
-fault-offence image code.WritableCode place low fault = fault
-fault-offence image code.UnknownWord place low fault = fault
-fault-offence image code.TransferInSlot place low fault = fault
-fault-offence image code.UnknownTarget place low fault = fault
-fault-offence image code.LinkRegister place low fault = fault
-fault-offence image code.Recursion place low fault = fault
-fault-offence image code.Irreducible place low fault = absurd (omega (arith, low))
-fault-offence image code.NoBound place low fault = absurd (omega (arith, low))
+fault-offence : (image : Image) (entry : ℕ) (kind : CodeKind) (place : ℕ) → code_rank kind < 6 → IsCodeFault kind image entry place → Offends image entry kind place
+fault-offence image entry code.WritableCode place low fault = fault
+fault-offence image entry code.UnknownWord place low fault = fault
+fault-offence image entry code.TransferInSlot place low fault = fault
+fault-offence image entry code.UnknownTarget place low fault = fault
+fault-offence image entry code.LinkRegister place low fault = fault
+fault-offence image entry code.Recursion place low fault = fault
+fault-offence image entry code.Irreducible place low fault = absurd (omega (arith, low))
+fault-offence image entry code.NoBound place low fault = absurd (omega (arith, low))
 
 -- The first fault of an address or a call.
-pub word-refusal : (image : Image) (kind : CodeKind) (place : ℕ) → IsFirstFault image image.entry kind place →
-    IsCodeRefusal image (kind_of_code kind) place
-word-refusal image kind place first =
-    let low = word-rank kind (offence-kind image image.entry kind place first.offends) in
+pub word-refusal : (image : Image) (entry : ℕ) (kind : CodeKind) (place : ℕ) → IsFirstFault image entry kind place →
+    IsCodeRefusal image entry (kind_of_code kind) place
+word-refusal image entry kind place first =
+    let low = word-rank kind (offence-kind image entry kind place first.offends) in
     record {
       fault = kind;
       same = refl;
-      offends = offence-fault image kind place first.offends;
-      first = λ other spot less fault. first.first other spot less (fault-offence image other spot (omega (arith, less, low)) fault);
-      least = λ lesser less fault. first.least lesser less (fault-offence image kind lesser low fault);
+      offends = offence-fault image entry kind place first.offends;
+      first = λ other spot less fault. first.first other spot less (fault-offence image entry other spot (omega (arith, less, low)) fault);
+      least = λ lesser less fault. first.least lesser less (fault-offence image entry kind lesser low fault);
     }
 
 -- The first fault of the loops, where there is none of these.
-pub loop-refusal : (image : Image) (kind : CodeKind) (place : ℕ) → HasNoFault image image.entry → TellsKindIn image image.entry kind place →
-    IsCodeRefusal image (kind_of_code kind) place
-loop-refusal image code.Irreducible place faultless told = record {
+pub loop-refusal : (image : Image) (entry : ℕ) (kind : CodeKind) (place : ℕ) → HasNoFault image entry → TellsKindIn image entry kind place →
+    IsCodeRefusal image entry (kind_of_code kind) place
+loop-refusal image entry code.Irreducible place faultless told = record {
   fault = code.Irreducible;
   same = refl;
   offends = told.here;
-  first = λ other spot less fault. faultless other spot (fault-offence image other spot less fault);
+  first = λ other spot less fault. faultless other spot (fault-offence image entry other spot less fault);
   least = told.least;
 }
-loop-refusal image code.NoBound place faultless told = record {
+loop-refusal image entry code.NoBound place faultless told = record {
   fault = code.NoBound;
   same = refl;
   offends = told.here;
   first = λ other spot less fault. earlier other spot less fault;
   least = told.least;
 } where
-  earlier : (other : CodeKind) (spot : ℕ) → code_rank other < 7 → IsCodeFault other image spot → ⊥
+  earlier : (other : CodeKind) (spot : ℕ) → code_rank other < 7 → IsCodeFault other image entry spot → ⊥
   earlier code.Irreducible spot less fault = told.accepted spot fault
   earlier code.NoBound spot less fault = absurd (omega (arith, less))
   earlier code.WritableCode spot less fault = faultless code.WritableCode spot fault
@@ -145,30 +145,30 @@ loop-refusal image code.NoBound place faultless told = record {
   earlier code.UnknownTarget spot less fault = faultless code.UnknownTarget spot fault
   earlier code.LinkRegister spot less fault = faultless code.LinkRegister spot fault
   earlier code.Recursion spot less fault = faultless code.Recursion spot fault
-loop-refusal image code.WritableCode place faultless told = absurd told
-loop-refusal image code.UnknownWord place faultless told = absurd told
-loop-refusal image code.TransferInSlot place faultless told = absurd told
-loop-refusal image code.UnknownTarget place faultless told = absurd told
-loop-refusal image code.LinkRegister place faultless told = absurd told
-loop-refusal image code.Recursion place faultless told = absurd told
+loop-refusal image entry code.WritableCode place faultless told = absurd told
+loop-refusal image entry code.UnknownWord place faultless told = absurd told
+loop-refusal image entry code.TransferInSlot place faultless told = absurd told
+loop-refusal image entry code.UnknownTarget place faultless told = absurd told
+loop-refusal image entry code.LinkRegister place faultless told = absurd told
+loop-refusal image entry code.Recursion place faultless told = absurd told
 
 -- Code without a fault whose loops are known has none of its kinds.
-pub code-faultless : (image : Image) (nests : Nests) → HasNoFault image image.entry → AreLoops image nests →
-    (kind : CodeKind) (place : ℕ) → IsCodeFault kind image place → ⊥
-code-faultless image nests faultless are code.Irreducible place fault = none-irreducible image nests are place fault
-code-faultless image nests faultless are code.NoBound place fault = none-unbounded image nests are place fault
-code-faultless image nests faultless are code.WritableCode place fault = faultless code.WritableCode place fault
-code-faultless image nests faultless are code.UnknownWord place fault = faultless code.UnknownWord place fault
-code-faultless image nests faultless are code.TransferInSlot place fault = faultless code.TransferInSlot place fault
-code-faultless image nests faultless are code.UnknownTarget place fault = faultless code.UnknownTarget place fault
-code-faultless image nests faultless are code.LinkRegister place fault = faultless code.LinkRegister place fault
-code-faultless image nests faultless are code.Recursion place fault = faultless code.Recursion place fault
+pub code-faultless : (image : Image) (entry : ℕ) (nests : Nests) → HasNoFault image entry → AreLoops image entry nests →
+    (kind : CodeKind) (place : ℕ) → IsCodeFault kind image entry place → ⊥
+code-faultless image entry nests faultless are code.Irreducible place fault = none-irreducible image entry nests are place fault
+code-faultless image entry nests faultless are code.NoBound place fault = none-unbounded image entry nests are place fault
+code-faultless image entry nests faultless are code.WritableCode place fault = faultless code.WritableCode place fault
+code-faultless image entry nests faultless are code.UnknownWord place fault = faultless code.UnknownWord place fault
+code-faultless image entry nests faultless are code.TransferInSlot place fault = faultless code.TransferInSlot place fault
+code-faultless image entry nests faultless are code.UnknownTarget place fault = faultless code.UnknownTarget place fault
+code-faultless image entry nests faultless are code.LinkRegister place fault = faultless code.LinkRegister place fault
+code-faultless image entry nests faultless are code.Recursion place fault = faultless code.Recursion place fault
 
 -- What the errors of both stages tell.
-pub word-tells : (image : Image) (fault : CodeFault) → TellsWords image image.entry fault → TellsCode image (refused_by fault)
-word-tells image (Bad kind address) told = word-refusal image kind address told
-word-tells image Memory told = tt
+pub word-tells : (image : Image) (entry : ℕ) (fault : CodeFault) → TellsWords image entry fault → TellsCode image entry (refused_by fault)
+word-tells image entry (Bad kind address) told = word-refusal image entry kind address told
+word-tells image entry Memory told = tt
 
-pub loop-tells : (image : Image) (fault : CodeFault) → HasNoFault image image.entry → TellsLoops image image.entry fault → TellsCode image (refused_by fault)
-loop-tells image (Bad kind address) faultless told = loop-refusal image kind address faultless told
-loop-tells image Memory faultless told = tt
+pub loop-tells : (image : Image) (entry : ℕ) (fault : CodeFault) → HasNoFault image entry → TellsLoops image entry fault → TellsCode image entry (refused_by fault)
+loop-tells image entry (Bad kind address) faultless told = loop-refusal image entry kind address faultless told
+loop-tells image entry Memory faultless told = tt

@@ -17,7 +17,7 @@ use Rattle.unit_graph.specs.Contents.{AreReached, Rise}
 use Rattle.unit_graph.specs.declared.reached.Reached.{Reached}
 use Rattle.wcet_engine.specs.Arcs.{leaves}
 use Rattle.wcet_engine.specs.Clash.{IsLeast}
-use Rattle.wcet_engine.specs.Faults.{HasNoReturn}
+use Rattle.wcet_engine.specs.ProgramFaults.{HasNoReturn}
 use Rattle.wcet_engine.specs.Table.{IsAt}
 use Rattle.wcet_engine.specs.Unbuilt.{AreFollowed, IsLeft, IsUnbuiltAt, content_left}
 use Rattle.wcet_engine.proofs.Following.{code-reached}
@@ -168,12 +168,12 @@ does-return image entry reached position one are there leaving =
 returns-content : (content : Content) (unit : CodeUnit) → content ≡ Stands unit → leaves content ≡ false → returns unit ≡ false
 returns-content content unit same fails = ap leaves (sym same) ∙ fails
 
-pub no-returns : (image : Image) (reached : List Reached) → AreFollowed image image.entry reached → All (λ (r : Reached). leaves r.content ≡ false) reached →
-    HasNoReturn image
-no-returns image reached of fails address unit here stands =
+pub no-returns : (image : Image) (entry : ℕ) (reached : List Reached) → AreFollowed image entry reached → All (λ (r : Reached). leaves r.content ≡ false) reached →
+    HasNoReturn image entry
+no-returns image entry reached of fails address unit here stands =
     let are = of.contents in
-    let has = has_position reached address (are.whole address (code-reached image image.entry address of.followed here)) in
-    let content = stands-there image image.entry reached has.position has.is.one are has.is.there ∙ ap (content_at image) has.is.same
+    let has = has_position reached address (are.whole address (code-reached image entry address of.followed here)) in
+    let content = stands-there image entry reached has.position has.is.one are has.is.there ∙ ap (content_at image) has.is.same
     ∙ unit-content image address unit stands in
     returns-content has.is.one.content unit content
     (subst (λ (r : Reached). leaves r.content ≡ false) (get_or_from_slice_get reached has.position has.is.one has.is.one has.is.there)

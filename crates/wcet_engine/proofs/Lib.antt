@@ -2,9 +2,11 @@ pub mod CodeKinds
 pub mod FaultLemmas
 pub mod LeastLemmas
 pub mod NetBound
-pub mod PlainCosts
+pub mod ProgramFaultLemmas
 pub mod Positions
 pub mod RunPaths
+pub mod SameCosts
+pub mod SameFiles
 pub mod SameImage
 pub mod StageLemmas
 pub mod TableRows

@@ -25,19 +25,19 @@ nest-in image (graph ∷ graphs) (loops ∷ nests) function zip there =
       | inr behind ↦ nest-in image graphs nests function zip.1 behind
     ]
 
-nest-of : (image : Image) (nests : Nests) → AreLoops image nests → (function : ℕ) → IsFunction image image.entry function →
+nest-of : (image : Image) (entry : ℕ) (nests : Nests) → AreLoops image entry nests → (function : ℕ) → IsFunction image entry function →
     (loops : List Loop) × IsNest image function loops
-nest-of image nests are function is = nest-in image are.graphs.graphs nests.nests function are.loops (are.drawn.whole function is)
+nest-of image entry nests are function is = nest-in image are.graphs.graphs nests.nests function are.loops (are.drawn.whole function is)
 
 -- No function of the program has a fault of its loops.
-pub none-irreducible : (image : Image) (nests : Nests) → AreLoops image nests → (place : ℕ) → IsIrreducibleIn image image.entry place → ⊥
-none-irreducible image nests are place fault =
-    let nest = nest-of image nests are fault.function fault.is in
+pub none-irreducible : (image : Image) (entry : ℕ) (nests : Nests) → AreLoops image entry nests → (place : ℕ) → IsIrreducibleIn image entry place → ⊥
+none-irreducible image entry nests are place fault =
+    let nest = nest-of image entry nests are fault.function fault.is in
     ranks-reducible image fault.function nest.1.ranks place fault.here
 
-pub none-unbounded : (image : Image) (nests : Nests) → AreLoops image nests → (place : ℕ) → IsUnboundedIn image image.entry place → ⊥
-none-unbounded image nests are place fault =
-    let nest = nest-of image nests are fault.function fault.is in
+pub none-unbounded : (image : Image) (entry : ℕ) (nests : Nests) → AreLoops image entry nests → (place : ℕ) → IsUnboundedIn image entry place → ⊥
+none-unbounded image entry nests are place fault =
+    let nest = nest-of image entry nests are fault.function fault.is in
     nest-bounded image fault.function nest.0 nest.1 place fault.here
 
 -- The first loops are those of the entry.
@@ -46,16 +46,16 @@ first-in-nests : (image : Image) (first : Graph) (others : List Graph) (nests : 
 first-in-nests image first others [] d zip = absurd zip
 first-in-nests image first others (loops ∷ more) d zip = (omega arith, zip.0)
 
-first-nest : (image : Image) (nests : Nests) → AreLoops image nests → (d : List Loop) →
-    (0 < length nests.nests) × IsNest image image.entry (get_or nests.nests 0 d)
-first-nest image nests are d =
+first-nest : (image : Image) (entry : ℕ) (nests : Nests) → AreLoops image entry nests → (d : List Loop) →
+    (0 < length nests.nests) × IsNest image entry (get_or nests.nests 0 d)
+first-nest image entry nests are d =
     let drawn = are.drawn in
     let found = first-in-nests image drawn.first drawn.others nests.nests d
     (subst (λ (graphs : List Graph). AllZip (IsNestOf image) graphs nests.nests) drawn.parts are.loops) in
     (found.0, subst (λ (f : ℕ). IsNest image f (get_or nests.nests 0 d)) drawn.begins found.1)
 
-pub nests-some : (image : Image) (nests : Nests) → AreLoops image nests → 0 < length nests.nests
-nests-some image nests are = (first-nest image nests are []).0
+pub nests-some : (image : Image) (entry : ℕ) (nests : Nests) → AreLoops image entry nests → 0 < length nests.nests
+nests-some image entry nests are = (first-nest image entry nests are []).0
 
-pub entry-nest : (image : Image) (nests : Nests) → AreLoops image nests → (d : List Loop) → IsNest image image.entry (get_or nests.nests 0 d)
-entry-nest image nests are d = (first-nest image nests are d).1
+pub entry-nest : (image : Image) (entry : ℕ) (nests : Nests) → AreLoops image entry nests → (d : List Loop) → IsNest image entry (get_or nests.nests 0 d)
+entry-nest image entry nests are d = (first-nest image entry nests are d).1

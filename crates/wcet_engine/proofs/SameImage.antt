@@ -1,11 +1,10 @@
--- Images with the same segments, entry and records have the same units, loops, nets and faults.
+-- Images with the same segments and records have the same program at an entry: its units, loops, nets and faults.
 use Rattle.std.proofs.Common.{◌≡◌, ℕ, ◌+◌, ◌<◌, inl, inr, cond, List, [], ◌∷◌, get_or, Contains, Option, Some, None, refl, ap, sym, subst, ◌∙◌}
 use Rattle.std.proofs.Math.Path.{fun_ext}
 use Rattle.cache_config.specs.Instructions.{costs_of}
 use Rattle.cache_config.specs.declared.profile.Profile.{Profile}
 use Rattle.elf_mips.specs.declared.image.Image.{Image}
 use Rattle.elf_mips.specs.declared.segment.Segment.{Segment}
-use Rattle.elf_mips.specs.Image.{IsImage}
 use Rattle.elf_mips.specs.Segments.{code_at, is_writable_word}
 use Rattle.flow_net.specs.Numbers.{item_at}
 use Rattle.flow_net.specs.declared.net.Net.{Net}
@@ -15,7 +14,6 @@ use Rattle.ipet_program.specs.Programs.{crude_limit, crude_of, place_price, pric
 use Rattle.mips_decode.specs.Step.{fetched}
 use Rattle.net_model.specs.declared.unit.CodeKind.{CodeKind}
 use Rattle.net_model.specs.declared.unit.CodeKind.TheVariants as code
-use Rattle.net_model.specs.declared.unit.CodeKind.TheVariants.{WritableCode}
 use Rattle.net_model.specs.declared.unit.Content.{Content}
 use Rattle.net_model.specs.declared.unit.Content.TheVariants.{Unit as Stands, Fault}
 use Rattle.net_model.specs.Units.{Word, Holds, Lacks, content_at, content_of, is_transfer, known, with_slot, word_at}
@@ -27,30 +25,23 @@ use Rattle.net_model.specs.Net.{IsNet}
 use Rattle.net_model.proofs.SameCode.{IsSameCode, function-same, offends-same, reached-same as code_reached-same, stands-same as unit_stands-same}
 use Rattle.net_model.proofs.SameNets.{irreducible-same, net-same, unbounded-same}
 use Rattle.loop_nest.specs.Programs.{IsIrreducibleIn, IsUnboundedIn}
-use Rattle.wcet_engine.specs.Faults.{HasNoReturn, IsCodeFault, IsPlainClash, IsPlainTooLarge}
+use Rattle.wcet_engine.specs.declared.refusal.RefusalKind.{RefusalKind}
+use Rattle.wcet_engine.specs.declared.refusal.RefusalKind.TheVariants.{TooLong, Short, NotElf, NotThisKind, BadTable, BadSegment, BadSection, BadRecord, RegionClash, Unfollowed, WritableCode, UnknownWord, TransferInSlot, UnknownTarget, LinkRegister, Recursion, Irreducible, NoBound, NeverReturns, BoundTooLarge}
+use Rattle.wcet_engine.specs.ProgramFaults.{HasNoReturn, IsCodeFault, IsTooLarge, OffendsIn}
 use Rattle.wcet_engine.specs.Unbuilt.{IsUnbuiltAt}
+use Rattle.wcet_engine.proofs.SameCosts.{HaveSameCosts, same-price}
 
--- Two images with the same segments, entry and records.
+-- Two images with the same segments and records.
 pub record IsSame (a b : Image) : Type 0 where
   pub segments : a.segments ≡ b.segments
-  pub entry : a.entry ≡ b.entry
   pub marks : a.marks ≡ b.marks
 
--- A file has one image, as far as these go.
-pub same-image : (file : List ℕ) (a b : Image) → IsImage file a → IsImage file b → IsSame a b
-same-image file a b one other =
-    record {
-      segments = one.segments ∙ sym other.segments;
-      entry = one.entry ∙ sym other.entry;
-      marks = one.marks ∙ sym other.marks;
-    }
-
-pub turned : (a b : Image) → IsSame a b → IsSame b a
-turned a b same = record { segments = sym same.segments; entry = sym same.entry; marks = sym same.marks }
+turned : (a b : Image) → IsSame a b → IsSame b a
+turned a b same = record { segments = sym same.segments; marks = sym same.marks }
 
 word-same : (a b : Image) (address : ℕ) → IsSame a b → word_at a address ≡ word_at b address
 word-same a b address same =
-    ap (λ (segments : List Segment). cond (is_writable_word segments address) (Lacks WritableCode) (known (fetched (code_at segments) address)))
+    ap (λ (segments : List Segment). cond (is_writable_word segments address) (Lacks code.WritableCode) (known (fetched (code_at segments) address)))
     same.segments
 
 content_of-same : (a b : Image) (address : ℕ) (word : Word) → IsSame a b → content_of a address word ≡ content_of b address word
@@ -82,71 +73,76 @@ price_at-same a b profile (Some place) same = ap (content_cost (costs_of profile
 price-same : (a b : Image) (profile : Profile) (net : Net) → IsSame a b → place_price profile a net ≡ place_price profile b net
 price-same a b profile net same = fun_ext (λ number. price_at-same a b profile (item_at number net.places) same)
 
--- What is said of an image holds of another one that is the same so far.
-pub clash-same : (a b : Image) (place : ℕ) → IsSame a b → IsPlainClash a place → IsPlainClash b place
-clash-same a b place same clash profile plain =
-    let c = clash profile plain in
-    record {
-      segment = c.segment;
-      loaded = subst (λ (segments : List Segment). Contains segments c.segment) same.segments c.loaded;
-      shared = c.shared;
-    }
+-- What is said of the program of an image holds of that of another one that is the same so far.
+unbuilt-same : (a b : Image) (entry place : ℕ) → IsSame a b → IsUnbuiltAt a entry place → IsUnbuiltAt b entry place
+unbuilt-same a b entry place same unbuilt = record {
+  reached = reached-same a b entry same place unbuilt.reached;
+  left = record {
+    unit = unbuilt.left.unit;
+    stands = stands-same a b place (Stands unbuilt.left.unit) same unbuilt.left.stands;
+    left = unbuilt.left.left;
+  };
+}
 
-pub unbuilt-same : (a b : Image) (place : ℕ) → IsSame a b → IsUnbuiltAt a a.entry place → IsUnbuiltAt b b.entry place
-unbuilt-same a b place same unbuilt =
-    subst (λ (entry : ℕ). IsUnbuiltAt b entry place) same.entry
-    (record {
-      reached = reached-same a b a.entry same place unbuilt.reached;
-      left = record {
-        unit = unbuilt.left.unit;
-        stands = stands-same a b place (Stands unbuilt.left.unit) same unbuilt.left.stands;
-        left = unbuilt.left.left;
-      };
-    })
+cycle-same : (a b : Image) (entry place : ℕ) → IsSame a b → IsIrreducibleIn a entry place → IsIrreducibleIn b entry place
+cycle-same a b entry place same fault = record {
+  function = fault.function;
+  is = function-same a b (code-of a b same) entry fault.function fault.is;
+  here = irreducible-same a b fault.function place (code-of a b same) fault.here;
+}
 
-offence-same : (a b : Image) (kind : CodeKind) (place : ℕ) → IsSame a b → Offends a a.entry kind place → Offends b b.entry kind place
-offence-same a b kind place same offends =
-    subst (λ (entry : ℕ). Offends b entry kind place) same.entry (offends-same a b (code-of a b same) a.entry kind place offends)
+unbound-same : (a b : Image) (entry place : ℕ) → IsSame a b → IsUnboundedIn a entry place → IsUnboundedIn b entry place
+unbound-same a b entry place same fault = record {
+  function = fault.function;
+  is = function-same a b (code-of a b same) entry fault.function fault.is;
+  here = unbounded-same a b fault.function place (code-of a b same) fault.here;
+}
 
-cycle-same : (a b : Image) (place : ℕ) → IsSame a b → IsIrreducibleIn a a.entry place → IsIrreducibleIn b b.entry place
-cycle-same a b place same fault =
-    subst (λ (entry : ℕ). IsIrreducibleIn b entry place) same.entry (record {
-      function = fault.function;
-      is = function-same a b (code-of a b same) a.entry fault.function fault.is;
-      here = irreducible-same a b fault.function place (code-of a b same) fault.here;
-    })
+fault-same : (a b : Image) (entry : ℕ) (kind : CodeKind) (place : ℕ) → IsSame a b → IsCodeFault kind a entry place → IsCodeFault kind b entry place
+fault-same a b entry code.Irreducible place same fault = cycle-same a b entry place same fault
+fault-same a b entry code.NoBound place same fault = unbound-same a b entry place same fault
+fault-same a b entry code.WritableCode place same fault = offends-same a b (code-of a b same) entry code.WritableCode place fault
+fault-same a b entry code.UnknownWord place same fault = offends-same a b (code-of a b same) entry code.UnknownWord place fault
+fault-same a b entry code.TransferInSlot place same fault = offends-same a b (code-of a b same) entry code.TransferInSlot place fault
+fault-same a b entry code.UnknownTarget place same fault = offends-same a b (code-of a b same) entry code.UnknownTarget place fault
+fault-same a b entry code.LinkRegister place same fault = offends-same a b (code-of a b same) entry code.LinkRegister place fault
+fault-same a b entry code.Recursion place same fault = offends-same a b (code-of a b same) entry code.Recursion place fault
 
-unbound-same : (a b : Image) (place : ℕ) → IsSame a b → IsUnboundedIn a a.entry place → IsUnboundedIn b b.entry place
-unbound-same a b place same fault =
-    subst (λ (entry : ℕ). IsUnboundedIn b entry place) same.entry (record {
-      function = fault.function;
-      is = function-same a b (code-of a b same) a.entry fault.function fault.is;
-      here = unbounded-same a b fault.function place (code-of a b same) fault.here;
-    })
-
-pub fault-same : (a b : Image) (kind : CodeKind) (place : ℕ) → IsSame a b → IsCodeFault kind a place → IsCodeFault kind b place
-fault-same a b code.Irreducible place same fault = cycle-same a b place same fault
-fault-same a b code.NoBound place same fault = unbound-same a b place same fault
-fault-same a b code.WritableCode place same fault = offence-same a b code.WritableCode place same fault
-fault-same a b code.UnknownWord place same fault = offence-same a b code.UnknownWord place same fault
-fault-same a b code.TransferInSlot place same fault = offence-same a b code.TransferInSlot place same fault
-fault-same a b code.UnknownTarget place same fault = offence-same a b code.UnknownTarget place same fault
-fault-same a b code.LinkRegister place same fault = offence-same a b code.LinkRegister place same fault
-fault-same a b code.Recursion place same fault = offence-same a b code.Recursion place same fault
-
-pub large-same : (a b : Image) → IsSame a b → IsPlainTooLarge a → IsPlainTooLarge b
-large-same a b same large profile plain =
-    let is = large profile plain in
+large-same : (a b : Image) (profile other : Profile) (entry : ℕ) → IsSame a b → HaveSameCosts profile other →
+    IsTooLarge a profile entry → IsTooLarge b other entry
+large-same a b profile other entry same costs is =
+    let price = price-same a b profile is.net same ∙ same-price b profile other is.net costs in
     record {
       net = is.net;
-      is_net = subst (λ (entry : ℕ). IsNet b entry is.net) same.entry (net-same a b a.entry is.net (code-of a b same) is.is_net);
-      large = λ holds told.
-          subst (λ (price : ℕ → ℕ). crude_limit < crude_of is.net holds price) (price-same a b profile is.net same) (is.large holds told);
+      is_net = net-same a b entry is.net (code-of a b same) is.is_net;
+      large = λ holds told. subst (λ (price : ℕ → ℕ). crude_limit < crude_of is.net holds price) price (is.large holds told);
     }
 
-pub no_return-same : (a b : Image) → IsSame a b → HasNoReturn a → HasNoReturn b
-no_return-same a b same none address unit reached stands =
+no_return-same : (a b : Image) (entry : ℕ) → IsSame a b → HasNoReturn a entry → HasNoReturn b entry
+no_return-same a b entry same none address unit reached stands =
     let code = code-of b a (turned a b same) in
-    none address unit
-    (code_reached-same b a code a.entry address (subst (λ (entry : ℕ). IsCodeReached b entry address) (sym same.entry) reached))
-    (unit_stands-same b a address (Stands unit) code stands)
+    none address unit (code_reached-same b a code entry address reached) (unit_stands-same b a address (Stands unit) code stands)
+
+-- So are the faults of the program, under profiles with the same costs.
+pub program-same : (a b : Image) (profile other : Profile) (entry : ℕ) (kind : RefusalKind) (place : ℕ) → IsSame a b →
+    HaveSameCosts profile other → OffendsIn a profile entry kind place → OffendsIn b other entry kind place
+program-same a b profile other entry TooLong place same costs offends = absurd offends
+program-same a b profile other entry Short place same costs offends = absurd offends
+program-same a b profile other entry NotElf place same costs offends = absurd offends
+program-same a b profile other entry NotThisKind place same costs offends = absurd offends
+program-same a b profile other entry BadTable place same costs offends = absurd offends
+program-same a b profile other entry BadSegment place same costs offends = absurd offends
+program-same a b profile other entry BadSection place same costs offends = absurd offends
+program-same a b profile other entry BadRecord place same costs offends = absurd offends
+program-same a b profile other entry RegionClash place same costs offends = absurd offends
+program-same a b profile other entry Unfollowed place same costs offends = unbuilt-same a b entry place same offends
+program-same a b profile other entry WritableCode place same costs offends = fault-same a b entry code.WritableCode place same offends
+program-same a b profile other entry UnknownWord place same costs offends = fault-same a b entry code.UnknownWord place same offends
+program-same a b profile other entry TransferInSlot place same costs offends = fault-same a b entry code.TransferInSlot place same offends
+program-same a b profile other entry UnknownTarget place same costs offends = fault-same a b entry code.UnknownTarget place same offends
+program-same a b profile other entry LinkRegister place same costs offends = fault-same a b entry code.LinkRegister place same offends
+program-same a b profile other entry Recursion place same costs offends = fault-same a b entry code.Recursion place same offends
+program-same a b profile other entry Irreducible place same costs offends = fault-same a b entry code.Irreducible place same offends
+program-same a b profile other entry NoBound place same costs offends = fault-same a b entry code.NoBound place same offends
+program-same a b profile other entry NeverReturns place same costs offends = (offends.0, no_return-same a b entry same offends.1)
+program-same a b profile other entry BoundTooLarge place same costs offends = (offends.0, large-same a b profile other entry same costs offends.1)

@@ -5,6 +5,7 @@ pub mod Clash
 pub mod Code
 pub mod Faults
 pub mod Outcomes
+pub mod ProgramFaults
 pub mod Records
 pub mod Refusals
 pub mod Rows

@@ -4,31 +4,43 @@ use Rattle.elf_mips.specs.declared.fault.ElfKind.{ElfKind}
 use Rattle.elf_mips.specs.declared.fault.ElfKind.TheVariants as elf
 use Rattle.net_model.specs.declared.unit.CodeKind.{CodeKind}
 use Rattle.net_model.specs.declared.unit.CodeKind.TheVariants as code
+use Rattle.wcet_engine.specs.declared.refusal.Refusal.{Refusal}
 use Rattle.wcet_engine.specs.declared.refusal.RefusalKind.{RefusalKind}
-use Rattle.wcet_engine.specs.declared.refusal.RefusalKind.TheVariants.{TooLong, Short, NotElf, NotThisKind, BadTable, BadSegment, BadSection, BadRecord, RegionClash, Unbuilt, WritableCode, UnknownWord, TransferInSlot, UnknownTarget, LinkRegister, Recursion, Irreducible, NoBound, NeverReturns, BoundTooLarge}
+use Rattle.wcet_engine.specs.declared.refusal.Spot.{Spot}
+use Rattle.wcet_engine.specs.declared.refusal.Spot.TheVariants.{Number, Key}
+use Rattle.wcet_engine.specs.declared.refusal.RefusalKind.TheVariants.{TooLong, Short, NotElf, NotThisKind, BadTable, BadSegment, BadSection, BadRecord, RegionClash, Unfollowed, WritableCode, UnknownWord, TransferInSlot, UnknownTarget, LinkRegister, Recursion, Irreducible, NoBound, NeverReturns, BoundTooLarge}
+
+-- A fault at a place that is a number.
+abbrev pub at_number : RefusalKind → ℕ → Refusal
+at_number kind place = record { kind = kind; spot = Number place }
+
+-- What is said of a place that is a number; it isn't said of a key.
+abbrev pub says_at : (ℕ → Type 0) → Spot → Type 0
+says_at Says (Number place) = Says place
+says_at Says (Key path) = ⊥
 
 -- The rank of a kind: of several kinds that a file has, the one of the least rank is answered.
 abbrev pub rank : RefusalKind → ℕ
 rank TooLong = 0
-rank Short = 1
-rank NotElf = 2
-rank NotThisKind = 3
-rank BadTable = 4
-rank BadSegment = 5
-rank BadSection = 6
-rank BadRecord = 7
-rank RegionClash = 8
-rank Unbuilt = 9
-rank WritableCode = 10
-rank UnknownWord = 11
-rank TransferInSlot = 12
-rank UnknownTarget = 13
-rank LinkRegister = 14
-rank Recursion = 15
-rank Irreducible = 16
-rank NoBound = 17
-rank NeverReturns = 18
-rank BoundTooLarge = 19
+rank Short = 4
+rank NotElf = 5
+rank NotThisKind = 6
+rank BadTable = 7
+rank BadSegment = 8
+rank BadSection = 9
+rank BadRecord = 10
+rank RegionClash = 12
+rank Unfollowed = 14
+rank WritableCode = 15
+rank UnknownWord = 16
+rank TransferInSlot = 17
+rank UnknownTarget = 18
+rank LinkRegister = 19
+rank Recursion = 20
+rank Irreducible = 21
+rank NoBound = 22
+rank NeverReturns = 23
+rank BoundTooLarge = 25
 
 -- The name of a kind in a refusal line.
 abbrev pub name_of : RefusalKind → List ℕ
@@ -41,7 +53,7 @@ name_of BadSegment = codes "bad-segment"
 name_of BadSection = codes "bad-section"
 name_of BadRecord = codes "bad-record"
 name_of RegionClash = codes "region-clash"
-name_of Unbuilt = codes "unbuilt"
+name_of Unfollowed = codes "unbuilt"
 name_of WritableCode = codes "writable-code"
 name_of UnknownWord = codes "unknown-word"
 name_of TransferInSlot = codes "transfer-in-slot"

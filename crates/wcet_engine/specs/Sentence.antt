@@ -1,6 +1,5 @@
 -- The sentence that the printed bound stands for.
-use Rattle.std.specs.Prelude.{◌≡◌, ℕ, ◌≤◌, List, [], None}
-use Rattle.cache_config.specs.Costs.{EachTakes}
+use Rattle.std.specs.Prelude.{ℕ, ◌≤◌, List, []}
 use Rattle.cache_config.specs.declared.profile.Profile.{Profile}
 use Rattle.elf_mips.specs.declared.image.Image.{Image}
 use Rattle.mips_decode.specs.State.{code_at}
@@ -23,18 +22,3 @@ abbrev pub Bounds : Image → Profile → ℕ → ℕ → Type 0
 Bounds image profile entry bound =
     (m : Machine) → IsMachineStart image profile entry m → (machines : List Machine) → IsSpokenOf image entry m machines →
     (last_machine m machines).cycles ≤ bound
-
--- The plain profile: no regions, memory and stores take 10 cycles, each instruction 1 of its own, the stack
--- begins at 7FFF0000 with 65,536 bytes, and no global pointer is set.
-pub record IsPlain (profile : Profile) : Type 0 where
-  pub memory : profile.memory ≡ 10
-  pub store : profile.store ≡ 10
-  pub stack_top : profile.stack_top ≡ 0x7FFF0000
-  pub stack_size : profile.stack_size ≡ 65536
-  pub pointer : profile.gp ≡ None
-  pub cycles : EachTakes 1 profile.cycles
-  pub regions : profile.regions ≡ []
-
--- The sentence under the plain profile.
-abbrev pub BoundsPlain : Image → ℕ → ℕ → Type 0
-BoundsPlain image entry bound = (profile : Profile) → IsPlain profile → Bounds image profile entry bound

@@ -11,16 +11,23 @@ use Rattle.wcet_engine.specs.declared.analysis.Analysis.{Analysis}
 use Rattle.wcet_engine.specs.declared.answer.Answer.{Answer}
 use Rattle.wcet_engine.specs.declared.answer.Answer.TheVariants.{Analysed, Refused}
 use Rattle.wcet_engine.specs.declared.refusal.Refusal.{Refusal}
+use Rattle.wcet_engine.specs.declared.refusal.Spot.{Spot}
+use Rattle.wcet_engine.specs.declared.refusal.Spot.TheVariants.{Number, Key}
 use Rattle.wcet_engine.specs.Refusals.{name_of}
 
 -- A number as eight upper-case hexadecimal digits, with zeros in front.
 abbrev pub hexadecimal : ℕ → List ℕ
 hexadecimal number = padded_integral (format_spec 32 0 4 8 (2 ^ 64 - 1)) false [] (digits 16 true number)
 
+-- A number is printed in hexadecimal digits, a key's path as it is.
+abbrev pub spot_text : Spot → List ℕ
+spot_text (Number place) = hexadecimal place
+spot_text (Key path) = path
+
 -- `refused KIND PLACE`
 abbrev pub refusal_text : Refusal → List ℕ
 refusal_text refusal =
-    codes "refused " ++ name_of refusal.kind ++ codes " " ++ hexadecimal refusal.place ++ codes "\n"
+    codes "refused " ++ name_of refusal.kind ++ codes " " ++ spot_text refusal.spot ++ codes "\n"
 
 -- `value COLUMN COUNT`
 abbrev pub count_text : Count → List ℕ

@@ -2,9 +2,8 @@
 
 ghost use Rattle.std.specs.Prelude.{◌≡◌, ◌≤◌, length, IfOk, IfErr};
 
-use crate::certificate::certify;
 use crate::clash::clash_place;
-use crate::code::{check_return, followed_code, loops_of};
+use crate::program::analyse_program;
 use crate::refusal::{Refusal, RefusalKind};
 use cache_config::Profile;
 use elf_mips::{ElfFault, read_image};
@@ -20,7 +19,7 @@ pub struct Analysis {
 }
 
 /// Why a file isn't analysed.
-#[derive(Clone, Copy, Debug, PartialEq, Eq)]
+#[derive(Debug, Drop)]
 pub enum Refused {
     /// The file's first fault.
     Fault(Refusal),
@@ -29,11 +28,13 @@ pub enum Refused {
 }
 
 impl Refused {
+    ghost use Rattle.wcet_engine.specs.Refusals.{at_number};
+
     /// A fault of this kind at this place.
     pub fn at(kind: RefusalKind, place: u32) -> Refused
-        ensures { result ≡ Refused.Fault (record { kind = kind; place = place }) }
+        ensures { result ≡ Refused.Fault (at_number kind place) }
     {
-        Refused::Fault(Refusal { kind, place })
+        Refused::Fault(Refusal::at(kind, place))
     }
 }
 
@@ -51,7 +52,7 @@ impl From<ElfFault> for Refused {
 }
 
 impl From<CodeFault> for Refused {
-    ghost use Rattle.wcet_engine.specs.Faults.{refused_by};
+    ghost use Rattle.wcet_engine.specs.ProgramFaults.{refused_by};
 
     ghost from_gives = { λ fault e. e ≡ refused_by fault };
 
@@ -89,9 +90,5 @@ pub fn analyse_bytes(alloc: Global, elf: &[u8]) -> Result<Analysis, Refused>
     if let Some(place) = clash_place(&image, &profile) {
         return Err(Refused::at(RefusalKind::RegionClash, place));
     }
-    let code = followed_code(alloc, &image)?;
-    let nests = loops_of(alloc, &image)?;
-    check_return(&image, code.reached.as_slice())?;
-    let certificate = certify(alloc, &image, &profile, &code, &nests)?;
-    Ok(Analysis { certificate })
+    analyse_program(alloc, &image, &profile, image.entry)
 }

@@ -54,10 +54,10 @@ pub fn answer_for<F: Shelf>(alloc: Global, files: &mut F, name: &str) -> Result<
 {
     match gather(alloc, files, name, u64::from(FILE_LIMIT)) {
         Ok(bytes) => answer_to(alloc, &bytes),
-        Err(GatherFault::TooLong) => Ok(Answer::Refused(Refusal {
-            kind: RefusalKind::TooLong,
-            place: FILE_LIMIT,
-        })),
+        Err(GatherFault::TooLong) => Ok(Answer::Refused(Refusal::at(
+            RefusalKind::TooLong,
+            FILE_LIMIT,
+        ))),
         Err(GatherFault::Read) => Err(Stopped::Read),
         Err(GatherFault::Memory) => Err(Stopped::Memory),
     }

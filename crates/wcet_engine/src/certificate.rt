@@ -29,8 +29,8 @@ use wcet_io::List;
 
 /// The loops of a program's first function, which is its entry.
 fn entry_loops(nests: &Nests) -> &[Loop]
-    requires { (image : Image) × AreLoops image nests.now }
-    ensures { (image : Image) → AreLoops image nests.now → IsNest image image.entry result.now }
+    requires { (image : Image) × (entry : ℕ) × AreLoops image entry nests.now }
+    ensures { (image : Image) (entry : ℕ) → AreLoops image entry nests.now → IsNest image entry result.now }
 {
     nests.nests.as_slice()[0].as_slice()
 }
@@ -77,6 +77,7 @@ fn certify_net(
     alloc: Global,
     image: &Image,
     profile: &Profile,
+    entry: u32,
     net: &Net,
 ) -> Result<Certificate, Refused>
     requires nested { IsNested net.now }
@@ -84,44 +85,37 @@ fn certify_net(
     requires few { IsFew net.now }
     requires accesses { net.now.accesses ≡ [] }
     ensures certifies { IfOk result (Certifies image.now profile.now net.now) }
-    ensures large { IfErr result (TellsLargeNet image.now profile.now net.now) }
+    ensures large { IfErr result (TellsLargeNet image.now profile.now entry net.now) }
 {
     let classes = ClassTable {
         rows: List::new(alloc),
     };
     match build(alloc, net, &classes, profile, image) {
         Ok(program) => Ok(certificate_of(alloc, &program, net)?),
-        Err(BuildFault::TooLarge { .. }) => {
-            Err(Refused::at(RefusalKind::BoundTooLarge, image.entry))
-        }
+        Err(BuildFault::TooLarge { .. }) => Err(Refused::at(RefusalKind::BoundTooLarge, entry)),
         Err(BuildFault::Memory) => Err(Refused::Memory),
     }
 }
 
-/// The certificate of the bound of the entry function.
+/// The certificate of the bound of the function at an entry.
 ///
 /// `Fault` says that the crude bound is too large.
 pub fn certify(
     alloc: Global,
     image: &Image,
     profile: &Profile,
+    entry: u32,
     code: &Code,
     nests: &Nests,
 ) -> Result<Certificate, Refused>
-    requires code { IsFollowedCode image.now code.now }
-    requires loops { AreLoops image.now nests.now }
-    requires faultless { HasNoFault image.now image.now.entry }
-    requires returns { Returns image.now image.now.entry }
-    ensures certified { IfOk result (IsCertified image.now profile.now) }
-    ensures large { IfErr result (TellsTooLarge image.now profile.now) }
+    requires code { IsFollowedCode image.now entry code.now }
+    requires loops { AreLoops image.now entry nests.now }
+    requires faultless { HasNoFault image.now entry }
+    requires returns { Returns image.now entry }
+    ensures certified { IfOk result (IsCertified image.now profile.now entry) }
+    ensures large { IfErr result (TellsTooLarge image.now profile.now entry) }
 {
     let loops = entry_loops(nests);
-    let net = net_of(
-        alloc,
-        image.entry,
-        code.reached.as_slice(),
-        &code.table,
-        loops,
-    )?;
-    certify_net(alloc, image, profile, &net)
+    let net = net_of(alloc, entry, code.reached.as_slice(), &code.table, loops)?;
+    certify_net(alloc, image, profile, entry, &net)
 }

@@ -49,30 +49,30 @@ fn first_left(reached: &[Reached]) -> Option<u32>
     None
 }
 
-/// The code that an image's entry reaches, where each unit of it is followed.
+/// The code that a function of an image reaches, where each unit of it is followed.
 ///
 /// `Fault` is the least unit that isn't followed, on a way from the entry that passes no other one.
-pub fn followed_code(alloc: Global, image: &Image) -> Result<Code, Refused>
-    ensures code { IfOk result (IsFollowedCode image.now) }
-    ensures unbuilt { IfErr result (TellsUnbuilt image.now) }
+pub fn followed_code(alloc: Global, image: &Image, entry: u32) -> Result<Code, Refused>
+    ensures code { IfOk result (IsFollowedCode image.now entry) }
+    ensures unbuilt { IfErr result (TellsUnbuilt image.now entry) }
 {
-    let reached = reached_contents(alloc, image, image.entry)?;
+    let reached = reached_contents(alloc, image, entry)?;
     if let Some(place) = first_left(reached.as_slice()) {
-        return Err(Refused::at(RefusalKind::Unbuilt, place));
+        return Err(Refused::at(RefusalKind::Unfollowed, place));
     }
     let table = steps_of(alloc, reached.as_slice())?;
     Ok(Code { reached, table })
 }
 
-/// The loops of the functions of an image's program, those of its entry first.
+/// The loops of the functions of the program at an entry, those of the entry first.
 ///
 /// `Fault` is the first fault of this code, or else of its loops.
-pub fn loops_of(alloc: Global, image: &Image) -> Result<Nests, Refused>
-    ensures loops { IfOk result (AreLoops image.now) }
-    ensures faultless { OnOk result (HasNoFault image.now image.now.entry) }
-    ensures bad { IfErr result (TellsCode image.now) }
+pub fn loops_of(alloc: Global, image: &Image, entry: u32) -> Result<Nests, Refused>
+    ensures loops { IfOk result (AreLoops image.now entry) }
+    ensures faultless { OnOk result (HasNoFault image.now entry) }
+    ensures bad { IfErr result (TellsCode image.now entry) }
 {
-    let graphs = function_graphs(alloc, image, image.entry)?;
+    let graphs = function_graphs(alloc, image, entry)?;
     let nests = find_loops(alloc, &graphs, image)?;
     Ok(nests)
 }
@@ -80,15 +80,15 @@ pub fn loops_of(alloc: Global, image: &Image) -> Result<Nests, Refused>
 /// Looks for a unit that returns.
 ///
 /// `Fault` says that there is none.
-pub fn check_return(image: &Image, reached: &[Reached]) -> Result<(), Refused>
-    requires { AreFollowed image.now image.now.entry reached.now }
-    ensures returns { OnOk result (Returns image.now image.now.entry) }
-    ensures never { IfErr result (TellsNoReturn image.now) }
+pub fn check_return(image: &Image, entry: u32, reached: &[Reached]) -> Result<(), Refused>
+    requires { AreFollowed image.now entry reached.now }
+    ensures returns { OnOk result (Returns image.now entry) }
+    ensures never { IfErr result (TellsNoReturn image.now entry) }
 {
     for one in reached {
         if leaves(&one.content) {
             return Ok(());
         }
     }
-    Err(Refused::at(RefusalKind::NeverReturns, image.entry))
+    Err(Refused::at(RefusalKind::NeverReturns, entry))
 }

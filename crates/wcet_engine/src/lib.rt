@@ -12,6 +12,7 @@ mod code_tests;
 #[cfg(test)]
 mod loop_tests;
 mod net;
+mod program;
 mod refusal;
 #[cfg(test)]
 mod section_tests;
@@ -23,5 +24,6 @@ mod top;
 mod words;
 
 pub use analysis::{Analysis, Refused, analyse_bytes};
-pub use refusal::{Refusal, RefusalKind};
+pub use program::analyse_program;
+pub use refusal::{Refusal, RefusalKind, Spot};
 pub use top::{Status, wcet_main};

@@ -1,9 +1,10 @@
-//! Refusals: the kind of a file's first fault, and its place.
+//! Refusals: the kind of the first fault of the files, and where it is.
 
 ghost use Rattle.std.specs.Prelude.{◌≡◌};
 
 use elf_mips::ElfKind;
 use unit_graph::CodeKind;
+use wcet_io::List;
 
 /// The kinds of refusals, in the order in which they are looked for.
 #[derive(Clone, Copy, Debug, PartialEq, Eq)]
@@ -26,9 +27,9 @@ pub enum RefusalKind {
     BadRecord,
     /// The stack shares an address with a loaded segment. The place is the least such address.
     RegionClash,
-    /// The entry reaches a call or an indirect jump, which aren't analysed yet. The place is the unit's
-    /// address.
-    Unbuilt,
+    /// The entry reaches a call or an indirect jump, which aren't analysed yet: `unbuilt`. The place is the
+    /// unit's address.
+    Unfollowed,
     /// A reached word lies in a segment that can be executed and written. The place is its address.
     WritableCode,
     /// A reached address holds no executable word, or one of no instruction. The place is the address.
@@ -51,11 +52,34 @@ pub enum RefusalKind {
     BoundTooLarge,
 }
 
-/// A kind and its place: an offset in the file, an address or a limit.
-#[derive(Clone, Copy, Debug, PartialEq, Eq)]
+/// Where a fault is.
+#[derive(Debug, Drop)]
+pub enum Spot {
+    /// An offset in the file, an address or a limit.
+    Number(u32),
+    /// The printed path of a profile's key.
+    Key(List<u8>),
+}
+
+/// The kind of a fault, and where it is.
+#[derive(Debug, Drop)]
 pub struct Refusal {
     pub kind: RefusalKind,
-    pub place: u32,
+    pub spot: Spot,
+}
+
+impl Refusal {
+    ghost use Rattle.wcet_engine.specs.Refusals.{at_number};
+
+    /// A fault at a place that is a number.
+    pub fn at(kind: RefusalKind, place: u32) -> Refusal
+        ensures { result ≡ at_number kind place }
+    {
+        Refusal {
+            kind,
+            spot: Spot::Number(place),
+        }
+    }
 }
 
 impl RefusalKind {
@@ -106,7 +130,7 @@ impl RefusalKind {
             RefusalKind::BadSection => "bad-section",
             RefusalKind::BadRecord => "bad-record",
             RefusalKind::RegionClash => "region-clash",
-            RefusalKind::Unbuilt => "unbuilt",
+            RefusalKind::Unfollowed => "unbuilt",
             RefusalKind::WritableCode => "writable-code",
             RefusalKind::UnknownWord => "unknown-word",
             RefusalKind::TransferInSlot => "transfer-in-slot",

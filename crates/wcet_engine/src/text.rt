@@ -2,20 +2,32 @@
 
 ghost use Rattle.std.specs.Prelude.{◌≡◌, ◌++◌, flat_map, IfOk, OnOk};
 ghost use Rattle.std.specs.String.{string_bytes};
-ghost use Rattle.wcet_engine.specs.Texts.{certificate_text, count_text, leaf_head, leaf_text, node_text, refusal_text, text_of, weight_text};
+ghost use Rattle.wcet_engine.specs.Texts.{certificate_text, count_text, leaf_head, leaf_text, node_text, refusal_text, spot_text, text_of, weight_text};
 
 use crate::answer::Answer;
-use crate::refusal::Refusal;
+use crate::refusal::{Refusal, Spot};
 use ipet_program::{Certificate, Count, Leaf, Node, Weight};
 use std::alloc::{AllocError, Global};
 
+/// A place as it is printed.
+fn print_spot(alloc: Global, spot: &Spot) -> Result<Vec<u8>, AllocError>
+    ensures { IfOk result (λ text. text.items ≡ spot_text spot.now) }
+{
+    match spot {
+        Spot::Number(place) => Ok(format!(in alloc; "{place:08X}")?.into_bytes()),
+        Spot::Key(path) => path.as_slice().to_vec(alloc),
+    }
+}
+
 /// The line of a refusal.
-fn print_refusal(alloc: Global, refusal: &Refusal) -> Result<String, AllocError>
-    ensures { IfOk result (λ text. string_bytes text ≡ refusal_text refusal.now) }
+fn print_refusal(alloc: Global, refusal: &Refusal) -> Result<Vec<u8>, AllocError>
+    ensures { IfOk result (λ text. text.items ≡ refusal_text refusal.now) }
 {
     let name = refusal.kind.name();
-    let place = refusal.place;
-    format!(in alloc; "refused {name} {place:08X}\n")
+    let mut text = format!(in alloc; "refused {name} ")?.into_bytes();
+    text.extend_from_slice(&print_spot(alloc, &refusal.spot)?)?;
+    text.push(b'\n')?;
+    Ok(text)
 }
 
 /// Adds the lines of counts.
@@ -118,11 +130,14 @@ fn print_certificate(alloc: Global, certificate: &Certificate) -> Result<String,
 }
 
 /// The text of an answer.
-pub fn print_answer(alloc: Global, answer: &Answer) -> Result<String, AllocError>
-    ensures { IfOk result (λ text. string_bytes text ≡ text_of answer.now) }
+pub fn print_answer(alloc: Global, answer: &Answer) -> Result<Vec<u8>, AllocError>
+    ensures { IfOk result (λ text. text.items ≡ text_of answer.now) }
 {
     match answer {
-        Answer::Analysed(analysis) => print_certificate(alloc, &analysis.certificate),
+        Answer::Analysed(analysis) => Ok(print_certificate(
+            alloc,
+            &analysis.certificate,
+        )?.into_bytes()),
         Answer::Refused(refusal) => print_refusal(alloc, refusal),
     }
 }

@@ -82,7 +82,7 @@ fn tell<O: Sink>(alloc: Global, answer: &Answer, out: &mut O) -> Status
     let Ok(text) = print_answer(alloc, answer) else {
         return Status::Memory;
     };
-    match deliver(out, text.as_bytes()) {
+    match deliver(out, &text) {
         Ok(()) => status_of(answer),
         Err(_) => Status::WriteFault,
     }

@@ -17,7 +17,7 @@ pub returns-then-leaves-clause-returns : goal.returns-then-leaves-clause-returns
 returns-then-leaves-clause-returns c =
     let image = c.args.image.now in
     let reached = c.args.reached.now in
-    does-return image image.entry reached c.loop-one.one-index c.one-item.result c.requires.contents
+    does-return image c.args.entry reached c.loop-one.one-index c.one-item.result c.requires.contents
     (slice_get_read reached (length reached) c.loop-one.one-index c.one-item.result refl c.loop-one-test.true c.one-item.is)
     (sym c.leaves.ensures ∙ c.if-leaves.true)
 
@@ -27,7 +27,6 @@ returns-clause-never c =
     let past : length reached ≤ c.loop-one.one-index = omega arith in
     rw c.at.ensures (
       refl,
-      refl,
-      no-returns c.args.image.now reached c.requires
+      no-returns c.args.image.now c.args.entry reached c.requires
           (subst (All (λ (one : Reached). leaves one.content ≡ false)) (take_all c.loop-one.one-index reached past) c.loop-one.invariant),
     )

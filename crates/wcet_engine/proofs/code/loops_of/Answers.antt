@@ -6,10 +6,10 @@ use Rattle.wcet_engine.proofs.code.loops_of.Goals as goal
 pub returns-in_err-graphs-clause-bad : goal.returns-in_err-graphs-clause-bad
 returns-in_err-graphs-clause-bad c =
     let p = err_from_is_err_and c.from_residual.result c.from_residual.ensures.1 in
-    rw (p.1, p.2) (word-tells c.args.image.now _ c.in_err-graphs.ensures.bad)
+    rw (p.1, p.2) (word-tells c.args.image.now c.args.entry _ c.in_err-graphs.ensures.bad)
 
 pub returns-in_err-nests-clause-bad : goal.returns-in_err-nests-clause-bad
 returns-in_err-nests-clause-bad c =
     let p = err_from_is_err_and c.from_residual-in_err-nests.result c.from_residual-in_err-nests.ensures.1 in
-    rw (p.1, p.2) (loop-tells c.args.image.now _ c.in_ok-graphs.ensures.faultless
-    (c.in_err-nests.ensures.bad c.args.image.now.entry c.in_ok-graphs.ensures.graphs))
+    rw (p.1, p.2) (loop-tells c.args.image.now c.args.entry _ c.in_ok-graphs.ensures.faultless
+    (c.in_err-nests.ensures.bad c.args.entry c.in_ok-graphs.ensures.graphs))
