@@ -96,6 +96,14 @@ for sheet in "$top"/examples/c/sums/*.txt; do
     [ $built -eq 0 ] && bound_of "$name"
 done
 
+# Every width of access and number of targets that wcet.h has.
+build widths.log "$@" "$work/widths.elf"
+check "widths.c: built" "$?" 0
+if is_there qemu-mips; then
+    qemu-mips "$work/widths.elf"
+    check "widths.c: wrong values" "$?" 0
+fi
+
 # A profile with a cache.
 "$wcet" bound "$work/sort.elf" "$top/examples/profiles/fetch-cache.toml" >"$work/bound" 2>"$work/error"
 check "a cache, which isn't taken yet" "$? $(cat "$work/bound" "$work/error")" "2 refused unbuilt 00000000"

@@ -1,5 +1,5 @@
-# int length(const char *text): the bytes of a text up to its zero byte. It is written for the text of find.c alone, which
-# has 19 bytes.
+/* int length(const char *text): the bytes of a text up to its zero byte. It is written for the text of find.c alone, which
+ * has 19 bytes. */
 #include "wcet.inc"
     .set noreorder
     .text
