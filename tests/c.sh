@@ -19,14 +19,18 @@ is_there() {
 }
 
 if ! is_there mips-linux-gnu-gcc || ! is_there qemu-mips || ! is_there make; then
-    (timeout 180 apt-get update && timeout 180 apt-get install -y --no-install-recommends \
-        gcc-mips-linux-gnu binutils-mips-linux-gnu qemu-user make) >"$work/apt.log" 2>&1
+    export DEBIAN_FRONTEND=noninteractive
+    timeout 180 apt-get update >"$work/apt.log" 2>&1
+    timeout 180 apt-get install -y --no-install-recommends gcc-mips-linux-gnu binutils-mips-linux-gnu qemu-user make \
+        >>"$work/apt.log" 2>&1
 fi
 if ! is_there mips-linux-gnu-gcc || ! is_there make; then
     echo 'skipped: no compiler for MIPS'
     exit 0
 fi
 is_there qemu-mips || echo 'skipped: the runs, without QEMU for MIPS'
+single=-singlestep
+qemu-mips -help 2>/dev/null | grep -q one-insn-per-tb && single=-one-insn-per-tb
 
 passed=0
 failed=0
@@ -71,7 +75,7 @@ bound_of() {
     fi
 
     is_there qemu-mips || return
-    qemu-mips -singlestep -d exec,nochain -D "$work/trace" "$elf"
+    qemu-mips $single -d exec,nochain -D "$work/trace" "$elf"
     check "$name: the run's result" "$?" "$(told "$name" result)"
     run=$("$top/tests/cycles.py" run "$elf" "$work/trace")
     check "$name: cycles of the run" "$(grep -c '^[1-9][0-9]*$' <<<"$run")" 1

@@ -39,7 +39,7 @@ def traced(elf, trace):
     """The cycles of the instructions between the first call of `task` and the one behind its slot."""
     entry, total, back, last = elf.symbols["task"], 0, None, []
     for line in trace:
-        found = re.match(r"Trace 0: 0x[0-9a-f]+ \[[0-9a-f]+/([0-9a-f]{8})/", line)
+        found = re.match(r"Trace 0: 0x[0-9a-f]+ \[[0-9a-f]+/([0-9a-f]+)/", line)
         if not found:
             continue
         address = int(found[1], 16)

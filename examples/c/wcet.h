@@ -33,9 +33,9 @@
 #define WCET_LOOP(turns) WCET_LOOP_(WCET_TEXT(__COUNTER__), turns)
 #define WCET_LOOP_(n, turns)                                                          \
     do {                                                                              \
-        _Static_assert((turns) >= 0 && (turns) < 0xFFFFFFFF, "turns of a loop");      \
+        _Static_assert((long long)(turns) >= 0 && (long long)(turns) < 0xFFFFFFFF, "turns of a loop"); \
         __asm__ volatile(WCET_KEPT(WCET_LABEL(n) "nop\n\t") WCET_RECORD(n, "1", "%0", "0") \
-                         : : "i"((turns) + 1));                                       \
+                         : : "i"((unsigned)(turns) + 1));                             \
     } while (0)
 
 /* Whether a type has a sign; the array's first byte and the one behind its last. */
