@@ -10,6 +10,7 @@
 set -u
 top=$(cd "$(dirname "$0")/.." && pwd)
 wcet=${WCET:-$top/wcet}
+cycles=$top/tests/cycles.py
 profile=$top/examples/profiles/plain.toml
 work=$(mktemp -d)
 trap 'rm -rf "$work"' EXIT
@@ -57,30 +58,35 @@ told() {
     sed -n "s/^$2  *//p" "$top/examples/c/sums/$1.txt"
 }
 
-# The bound of a program against its sheet and its run.
-bound_of() {
-    local name=$1 elf=$work/$1.elf bound run code
-    "$wcet" bound "$elf" "$profile" >"$work/bound" 2>"$work/error"
-    check "$name: status" "$? $(cat "$work/error")" "0 "
+# Analyses a program: its bound comes to stand in `bound`.
+analyse() {
+    "$wcet" bound "$work/$1.elf" "$profile" >"$work/bound" 2>"$work/error"
+    check "$1: status" "$? $(cat "$work/error")" "0 "
     bound=$(sed -n '1s/^bound //p' "$work/bound")
-    check "$name: a bound" "$(grep -c '^[1-9][0-9]*$' <<<"$bound") $(head -n 1 "$work/bound")" "1 bound $bound"
+    check "$1: a bound" "$(grep -c '^[1-9][0-9]*$' <<<"$bound")" 1
+}
 
-    code=$("$top/tests/cycles.py" code "$elf")
-    if [ "$code" = "$(told "$name" code)" ] && [ "$compiler" = "$(told "$name" compiler)" ]; then
-        check "$name: the sheet's sum" "$("$top/tests/cycles.py" sum "$elf" "$top/examples/c/sums/$name.txt")" \
-            "$(told "$name" value)"
-        check "$name: the bound" "$bound" "$(told "$name" value)"
-    else
-        echo "$name: other code than its sheet's, so its bound is compared with the run alone"
+# Compares the bound with the program's sheet, where that holds for this code.
+compare_with_sheet() {
+    local elf=$work/$1.elf sheet=$top/examples/c/sums/$1.txt
+    if [ "$("$cycles" code "$elf")" != "$(told "$1" code)" ] || [ "$compiler" != "$(told "$1" compiler)" ]; then
+        echo "$1: other code than its sheet's, so its bound is compared with the run alone"
+        return
     fi
+    check "$1: the sheet's sum" "$("$cycles" sum "$elf" "$sheet")" "$(told "$1" value)"
+    check "$1: the bound" "$bound" "$(told "$1" value)"
+}
 
+# Compares the bound with a traced run: the program, then the result that the run must have.
+compare_with_run() {
+    local run
     is_there qemu-mips || return
-    qemu-mips $single -d exec,nochain -D "$work/trace" "$elf"
-    check "$name: the run's result" "$?" "$(told "$name" result)"
-    run=$("$top/tests/cycles.py" run "$elf" "$work/trace")
-    check "$name: cycles of the run" "$(grep -c '^[1-9][0-9]*$' <<<"$run")" 1
-    check "$name: the run's $run cycles are at most the bound" "$((run <= bound))" 1
-    echo "$name: bound $bound, run $run"
+    qemu-mips $single -d exec,nochain -D "$work/trace" "$work/$1.elf"
+    check "$1: the run's result" "$?" "$2"
+    run=$("$cycles" run "$work/$1.elf" "$work/trace")
+    check "$1: cycles of the run" "$(grep -c '^[1-9][0-9]*$' <<<"$run")" 1
+    check "$1: the run's $run cycles are at most the bound" "$((run <= bound))" 1
+    echo "$1: bound $bound, run $run"
 }
 
 # Builds the analyser where it is missing or old.
@@ -92,20 +98,21 @@ if [ $? -ne 1 ]; then
 fi
 
 compiler=$(mips-linux-gnu-gcc --version | head -n 1)
-for sheet in "$top"/examples/c/sums/*.txt; do
-    name=$(basename "$sheet" .txt)
+for name in sort crc matrix crossing find levels; do
     build "$name.log" "$@" "$work/$name.elf"
-    built=$?
-    check "$name: built" "$built $([ $built -eq 0 ] || cat "$work/$name.log")" "0 "
-    [ $built -eq 0 ] && bound_of "$name"
+    check "$name: built" "$? $(grep -v '^\(loop\|access\|target\) ' "$work/$name.log")" "0 "
+    [ -e "$work/$name.elf" ] || continue
+    analyse "$name"
+    compare_with_sheet "$name"
+    compare_with_run "$name" "$(told "$name" result)"
 done
 
-# Every width of access and number of targets that wcet.h has.
+# Every width of access and every number of targets that wcet.h has. The result is how many values are wrong.
 build widths.log "$@" "$work/widths.elf"
-check "widths.c: built" "$?" 0
-if is_there qemu-mips; then
-    qemu-mips "$work/widths.elf"
-    check "widths.c: wrong values" "$?" 0
+check "widths: built" "$? $(grep -v '^\(loop\|access\|target\) ' "$work/widths.log")" "0 "
+if [ -e "$work/widths.elf" ]; then
+    analyse widths
+    compare_with_run widths 0
 fi
 
 # A profile with a cache.
