@@ -14,6 +14,7 @@ cycles=$top/tests/cycles.py
 profile=$top/examples/profiles/plain.toml
 work=$(mktemp -d)
 trap 'rm -rf "$work"' EXIT
+. "$top/tests/tally.sh"
 
 is_there() {
     command -v "$1" >/dev/null
@@ -32,19 +33,6 @@ fi
 is_there qemu-mips || echo 'skipped: the runs, without QEMU for MIPS'
 single=-singlestep
 qemu-mips -help 2>/dev/null | grep -q one-insn-per-tb && single=-one-insn-per-tb
-
-passed=0
-failed=0
-
-# Counts a trial: its name, then what it gave, then what is wanted.
-check() {
-    if [ "$2" = "$3" ]; then
-        passed=$((passed + 1))
-    else
-        failed=$((failed + 1))
-        printf 'failed: %s\n  gave:   %s\n  wanted: %s\n' "$1" "$2" "$3"
-    fi
-}
 
 # Builds into the trials' folder: a log's name, then words for make.
 build() {
