@@ -1,2 +1,8 @@
 -- Laws of the net of a program.
 pub mod Items
+-- Loop instances and scopes.
+mod Nodes
+mod AroundLaws
+mod AroundLists
+mod ScopeLists
+mod BodySearch

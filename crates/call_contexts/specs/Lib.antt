@@ -2,3 +2,5 @@
 pub mod Sizes
 pub mod Programs
 pub mod Layout
+-- Loop instances and scopes.
+pub mod Around

@@ -4,6 +4,7 @@
 mod fault;
 mod index;
 mod layout;
+mod around;
 mod program;
 
 pub use fault::NetFault;
