@@ -6,3 +6,5 @@ mod AroundLaws
 mod AroundLists
 mod ScopeLists
 mod BodySearch
+mod Growing
+mod Parts

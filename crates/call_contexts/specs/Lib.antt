@@ -4,3 +4,4 @@ pub mod Programs
 pub mod Layout
 -- Loop instances and scopes.
 pub mod Around
+pub mod Instances

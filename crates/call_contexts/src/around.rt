@@ -1,13 +1,15 @@
 //! Which loops lie round the units of a function, by the positions of the loops.
 
-ghost use Rattle.std.specs.Prelude.{◌≡◌, ◌+◌, ◌<◌, AllPairs, Contains, Some, length, IfOk, IfSome};
+ghost use Rattle.std.specs.Prelude.{◌≡◌, ℕ, ◌+◌, ◌<◌, AllPairs, Contains, Some, length, IfOk, IfSome};
 ghost use Rattle.std.specs.Bool.{OnFalse, OnTrue};
+ghost use Rattle.elf_mips.specs.declared.image.Image.{Image};
 ghost use Rattle.call_contexts.specs.Around.{AreNearest, AreOfFunction, AreOwn, AreRising, IsInner};
+ghost use Rattle.call_contexts.specs.Programs.{IsProgram};
 
 use crate::index::position_of;
-use loop_nest::Loop;
+use loop_nest::{Loop, Nests};
 use std::alloc::{AllocError, Global};
-use unit_graph::Unit;
+use unit_graph::{Graphs, Unit};
 
 /// Whether a loop holds an address, by bisection of its body.
 fn holds(one: &Loop, address: u32) -> bool
@@ -82,4 +84,47 @@ pub fn own_headers(units: &[Unit], loops: &[Loop], numbers: &mut [Option<usize>]
         let place = position_of(units, loops[position].header);
         numbers[place] = Some(position);
     }
+}
+
+/// The loops round the units of a function, for each unit by its position.
+#[derive(Debug, Drop)]
+pub struct Rounds {
+    /// The innermost loop that holds the unit and that another unit heads.
+    pub around: Vec<Option<usize>>,
+    /// The loop that the unit heads, else the innermost one that holds it.
+    pub own: Vec<Option<usize>>,
+}
+
+ghost use Rattle.call_contexts.specs.Instances.{AreRounds};
+
+/// The loops round the units of a function.
+fn rounds_of(alloc: Global, units: &[Unit], loops: &[Loop]) -> Result<Rounds, AllocError>
+    requires { AreOfFunction units.now loops.now }
+    ensures around { IfOk result (λ rounds. AreNearest units.now loops.now (length loops.now) rounds.around.items) }
+    ensures own { IfOk result (λ rounds. AreOwn units.now loops.now (length loops.now) rounds.own.items) }
+{
+    let around = around_of(alloc, units, loops)?;
+    let mut own = Vec::from_slice(alloc, around.as_slice())?;
+    own_headers(units, loops, &mut own);
+    Ok(Rounds { around, own })
+}
+
+/// For each function the loops round its units.
+pub fn all_rounds(
+    alloc: Global,
+    graphs: &Graphs,
+    nests: &Nests,
+) -> Result<Vec<Rounds>, AllocError>
+    requires { (image : Image) × (entry : ℕ) × IsProgram image entry graphs.now nests.now }
+    ensures { IfOk result (λ rounds. AreRounds graphs.now.graphs nests.now.nests (length graphs.now.graphs) rounds.items) }
+{
+    let graphs = graphs.graphs.as_slice();
+    let nests = nests.nests.as_slice();
+    let mut rounds = Vec::new(alloc);
+    for position in 0..graphs.len() {
+        let units = graphs[position].units.as_slice();
+        let loops = nests[position].as_slice();
+        rounds.push(rounds_of(alloc, units, loops)?)?;
+    }
+    Ok(rounds)
 }

@@ -5,6 +5,8 @@ mod fault;
 mod index;
 mod layout;
 mod around;
+mod instances;
+mod scopes;
 mod program;
 
 pub use fault::NetFault;
