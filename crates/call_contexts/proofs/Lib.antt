@@ -1,2 +1,5 @@
 -- Laws of the net of a program.
 pub mod Items
+-- Sizes and layout of the contexts.
+pub mod Bisection
+pub mod Places
