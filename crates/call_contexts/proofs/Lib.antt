@@ -3,3 +3,4 @@ pub mod Items
 -- Sizes and layout of the contexts.
 pub mod Bisection
 pub mod Places
+pub mod Numbering
