@@ -8,3 +8,8 @@ mod ScopeLists
 mod BodySearch
 mod Growing
 mod Parts
+-- Sizes and layout of the contexts.
+pub mod Bisection
+pub mod Places
+pub mod Numbering
+mod InstanceLists

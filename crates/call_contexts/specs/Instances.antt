@@ -51,6 +51,13 @@ pub record AreFirsts (graphs : List Graph) (nests : List (List Loop)) (layout : 
   pub low : (context first base : ℕ) → slice_get firsts context ≡ Some first → slice_get layout.bases.items context ≡ Some base →
       first < base
 
+-- The loops round the units of a program that is laid out, and the numbers of its contexts' loop instances.
+pub record HasRounds (image : Image) (entry : ℕ) (graphs : Graphs) (nests : Nests) (layout : Layout) (rounds : List Rounds)
+    (firsts : List ℕ) : Type 0 where
+  pub laid : IsLaidProgram image entry graphs nests layout
+  pub rounds_are : AreRounds graphs.graphs nests.nests (length graphs.graphs) rounds
+  pub firsts_are : AreFirsts graphs.graphs nests.nests layout (length layout.contexts.keys) firsts
+
 -- The scope of what a loop of a context's function holds, or none of them: the loop's instance, or the scope round
 -- the context.
 abbrev pub scope_by : (first outer : ℕ) → Option ℕ → ℕ

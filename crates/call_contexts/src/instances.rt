@@ -22,7 +22,7 @@ pub struct Instances {
     pub scopes: Vec<u32>,
 }
 
-ghost use Rattle.call_contexts.specs.Instances.{AddsInstances, AreFirsts, AreInstances, AreRounds, HasScopes, IsInstanceBy, IsLaidProgram};
+ghost use Rattle.call_contexts.specs.Instances.{AddsInstances, AreInstances, HasRounds, HasScopes, IsInstanceBy, IsLaidProgram};
 
 /// Where a context's places and loop instances begin, and the scope round it.
 #[derive(Clone, Copy, Debug)]
@@ -89,9 +89,7 @@ fn all_instances(
     firsts: &[u32],
     outers: &[u32],
 ) -> Result<List<LoopInst>, AllocError>
-    requires program { (image : Image) × (entry : ℕ) × IsLaidProgram image entry graphs.now nests.now layout.now }
-    requires rounds { AreRounds graphs.now.graphs nests.now.nests (length graphs.now.graphs) rounds.now }
-    requires firsts { AreFirsts graphs.now.graphs nests.now.nests layout.now (length layout.now.contexts.keys) firsts.now }
+    requires program { (image : Image) × (entry : ℕ) × HasRounds image entry graphs.now nests.now layout.now rounds.now firsts.now }
     requires outers { length outers.now ≡ length layout.now.contexts.keys }
     ensures { IfOk result (λ instances. AreInstances graphs.now.graphs nests.now.nests layout.now firsts.now outers.now
         (length layout.now.contexts.keys) instances) }

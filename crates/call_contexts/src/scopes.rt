@@ -2,8 +2,7 @@
 
 ghost use Rattle.std.specs.Prelude.{◌≡◌, ◌+◌, ◌^◌, ◌<◌, ◌++◌, ℕ, All, Some, length, map, slice_get, IfOk, IfSome, OnOk};
 ghost use Rattle.elf_mips.specs.declared.image.Image.{Image};
-ghost use Rattle.flow_net.specs.declared.net.Context.{Context as CallContext};
-ghost use Rattle.call_contexts.specs.Instances.{AreFirsts, AreRounds, AreScopes, IsLaidProgram, IsRoundContext, scope_by};
+ghost use Rattle.call_contexts.specs.Instances.{AreFirsts, AreScopes, HasRounds, IsLaidProgram, IsRoundContext, scope_by};
 
 use crate::around::Rounds;
 use crate::index::position_of;
@@ -26,8 +25,10 @@ pub fn firsts_of(
     let mut firsts = Vec::new(alloc);
     let mut next = 0;
     firsts.push(next)?;
+    let nests = nests.nests.as_slice();
     for function in &layout.functions {
-        next += nests.nests.as_slice()[*function].as_slice().len() as u32;
+        let loops = nests[*function].as_slice();
+        next += loops.len() as u32;
         firsts.push(next)?;
     }
     Ok(firsts)
@@ -101,10 +102,9 @@ pub fn scopes_of(
     rounds: &[Rounds],
     firsts: &[u32],
 ) -> Result<Scopes, AllocError>
-    requires program { (image : Image) × (entry : ℕ) × (nests : Nests) × IsLaidProgram image entry graphs.now nests layout.now
-        × AreRounds graphs.now.graphs nests.nests (length graphs.now.graphs) rounds.now
-        × AreFirsts graphs.now.graphs nests.nests layout.now (length layout.now.contexts.keys) firsts.now }
-    ensures { IfOk result (λ made. (nests : Nests) → AreRounds graphs.now.graphs nests.nests (length graphs.now.graphs) rounds.now →
+    requires { (image : Image) × (entry : ℕ) × (nests : Nests) × HasRounds image entry graphs.now nests layout.now rounds.now firsts.now }
+    ensures { IfOk result (λ made. (image : Image) (entry : ℕ) (nests : Nests) →
+        HasRounds image entry graphs.now nests layout.now rounds.now firsts.now →
         AreScopes graphs.now.graphs nests.nests layout.now firsts.now (length layout.now.contexts.keys) made.outers.items made.scopes.items) }
 {
     let contexts = layout.contexts.as_slice();
