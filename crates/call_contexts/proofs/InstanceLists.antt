@@ -170,7 +170,7 @@ scopes-more image entry graphs nests layout rounds firsts has done outers scopes
   filled_by =
       let count = own.count in
       let total : p.base + length p.graph.units ≡ suc (length (scopes ++ more)) =
-      omega (arith, base_is, length-append scopes more, length-map (λ (found : Option ℕ). scope_by first outer found) round.own.items, count) in
+      omega (arith, base_is, length-append scopes more, length-map round.own.items (λ (found : Option ℕ). scope_by first outer found), count) in
       let e : done + 1 ≡ suc done = omega arith in
       ap (λ (c : ℕ). slice_get layout.bases.items c) e
       ∙ has.laid.layout_is.laid.next done p.base p.graph p.parts.has p.parts.begins ∙ ap (λ (n : ℕ). Some n) total
