@@ -13,11 +13,12 @@ use Rattle.step_table.proofs.Places.{place_cases, place_last, place_left}
 use Rattle.unit_graph.specs.declared.graph.Graph.{Graph}
 use Rattle.unit_graph.specs.declared.graph.Graphs.{Graphs}
 use Rattle.unit_graph.specs.declared.node.Unit.{Unit as Node}
-use Rattle.call_contexts.specs.Around.{IsNearestBy, IsOwnBy}
+use Rattle.call_contexts.specs.Around.{AreOwn, IsNearestBy, IsOwnBy}
 use Rattle.call_contexts.specs.Instances.{AddsInstances, AreFirsts, AreInstances, AreInstancesBy, AreScopes, HasParts, HasRounds, IsInstanceBy, IsLaidProgram, IsRoundContext, IsScopeBy, scope_by}
+use Rattle.call_contexts.specs.Sizes.{most_places}
 use Rattle.call_contexts.specs.declared.around.Rounds.{Rounds}
 use Rattle.call_contexts.specs.declared.layout.Layout.{Layout}
-use Rattle.call_contexts.proofs.Growing.{behind-at, front-at, grows}
+use Rattle.call_contexts.proofs.Growing.{Grow, behind-at, front-at, grows}
 use Rattle.call_contexts.proofs.Parts.{PartsOf, bases-grow, firsts-grow, loops-few, parts-of, parts-one}
 
 -- Before the first context.
@@ -45,13 +46,26 @@ firsts-low image entry graphs nests layout laid done next firsts are there p =
     let begins = p.parts.begins in
     omega (arith, are.low done next p.base there begins, loops-few image p.of.target p.graph.units p.loops p.units p.nest)
 
+-- A context's places have numbers that aren't too great, nor have its loop instances.
+pub parts-small : (image : Image) (entry : ℕ) (graphs : Graphs) (nests : Nests) (layout : Layout) → IsLaidProgram image entry graphs nests layout →
+    (context : ℕ) (p : PartsOf image graphs.graphs nests.nests layout context) → p.base + length p.graph.units ≤ most_places + 1
+parts-small image entry graphs nests layout laid context p =
+    let out = laid.layout_is.laid in
+    out.few_places (suc context) (p.base + length p.graph.units) (out.next context p.base p.graph p.parts.has p.parts.begins)
+
+pub firsts-small : (image : Image) (entry : ℕ) (graphs : Graphs) (nests : Nests) (layout : Layout) → IsLaidProgram image entry graphs nests layout →
+    (done next : ℕ) (firsts : List ℕ) → AreFirsts graphs.graphs nests.nests layout done firsts → slice_get firsts done ≡ Some next →
+    (p : PartsOf image graphs.graphs nests.nests layout done) → next + length p.loops ≤ most_places
+firsts-small image entry graphs nests layout laid done next firsts are there p =
+    omega (arith, firsts-low image entry graphs nests layout laid done next firsts are there p, parts-small image entry graphs nests layout laid done p)
+
 pub firsts-more : (image : Image) (entry : ℕ) (graphs : Graphs) (nests : Nests) (layout : Layout) → IsLaidProgram image entry graphs nests layout →
     (done next : ℕ) (firsts : List ℕ) → AreFirsts graphs.graphs nests.nests layout done firsts → slice_get firsts done ≡ Some next →
     (p : PartsOf image graphs.graphs nests.nests layout done) →
     AreFirsts graphs.graphs nests.nests layout (done + 1) (firsts ++ (next + length p.loops) ∷ [])
 firsts-more image entry graphs nests layout laid done next firsts are there p = record {
   count = let all = are.count in omega (arith, length_push firsts (next + length p.loops), all);
-  first = place_left firsts (next + length p.loops ∷ []) 0 0 are.first;
+  first = place_left firsts ((next + length p.loops) ∷ []) 0 0 are.first;
   next = λ context first base graph loops less parts at.
       next_by context first base graph loops parts (place_cases firsts (next + length p.loops) context first at) (cases_lt context done) less;
   low = λ context first base at begins. low_by context first base begins (place_cases firsts (next + length p.loops) context first at);
@@ -63,14 +77,14 @@ firsts-more image entry graphs nests layout laid done next firsts are there p = 
   next_by context first base graph loops parts (inr (last, same)) order less =
       absurd (let all = are.count in omega (arith, all, last, less))
   next_by context first base graph loops parts (inl at) (inl early) less =
-      place_left firsts (next + length p.loops ∷ []) (suc context) (first + length loops)
+      place_left firsts ((next + length p.loops) ∷ []) (suc context) (first + length loops)
       (are.next context first base graph loops early parts at)
   next_by context first base graph loops parts (inl at) (inr most) less =
       let here : context ≡ done = omega (arith, most, less) in
       let one = parts-one graphs.graphs nests.nests layout done graph p.graph loops p.loops base p.base
       (subst (λ (c : ℕ). HasParts graphs.graphs nests.nests layout c graph loops base) here parts) p.parts in
       let value : first ≡ next = same_Some first next (sym at ∙ ap (λ (c : ℕ). slice_get firsts c) here ∙ there) in
-      let total : next + length p.loops ≡ first + length loops = omega (arith, value, ap (λ (ls : List Loop). length ls) one.loops) in
+      let total : next + length p.loops ≡ first + length loops = omega (arith, value, ap (λ (ls : List Loop). length ls) one.one_list) in
       let behind : suc context ≡ length firsts = (let all = are.count in omega (arith, all, here)) in
       ap (λ (k : ℕ). slice_get (firsts ++ (next + length p.loops) ∷ []) k) behind
       ∙ place_last firsts (next + length p.loops) ∙ ap (λ (n : ℕ). Some n) total
@@ -158,6 +172,7 @@ scopes-more image entry graphs nests layout rounds firsts has done outers scopes
   each = λ context start other base position scope graph loops node parts begins at here is.
       each_by context start other base position scope graph loops node parts begins here is (place_cases outers outer context other at);
 } where
+  own : AreOwn p.graph.units p.loops (length p.loops) round.own.items
   own = has.rounds_are.own p.parts.has.position p.graph p.loops round p.parts.has.is p.parts.looped rounded
 
   more : List ℕ
@@ -213,13 +228,13 @@ scopes-more image entry graphs nests layout rounds firsts has done outers scopes
       let one = parts-one graphs.graphs nests.nests layout done graph p.graph loops p.loops base p.base
       (subst (λ (c : ℕ). HasParts graphs.graphs nests.nests layout c graph loops base) place parts) p.parts in
       let value : first ≡ start = same_Some first start (sym there ∙ ap (λ (c : ℕ). slice_get firsts c) (sym place) ∙ begins) in
-      let number : base + position ≡ suc (length scopes + position) = (let b = one.bases in omega (arith, b, base_is)) in
+      let number : base + position ≡ suc (length scopes + position) = (let b = one.one_base in omega (arith, b, base_is)) in
       let read : option_map (λ (f : Option ℕ). scope_by first outer f) (slice_get round.own.items position) ≡ Some scope =
       sym (slice_get-map (λ (f : Option ℕ). scope_by first outer f) round.own.items position)
       ∙ sym (item-behind scopes more (base + position) position number) ∙ is in
-      let got = scope_at position scope node (subst (λ (g : Graph). slice_get g.units position ≡ Some node) one.graphs here)
+      let got = scope_at position scope node (subst (λ (g : Graph). slice_get g.units position ≡ Some node) one.one_graph here)
       (slice_get round.own.items position) refl read in
-      subst (λ (ls : List Loop). IsScopeBy ls start other node.address scope) (sym one.loops)
+      subst (λ (ls : List Loop). IsScopeBy ls start other node.address scope) (sym one.one_list)
       (subst (λ (o : ℕ). IsScopeBy p.loops start o node.address scope) same
       (subst (λ (f : ℕ). IsScopeBy p.loops f outer node.address scope) value got))
 
@@ -301,6 +316,7 @@ instances-more image entry graphs nests layout rounds firsts outers has done ins
       let count = adds.are.count in
       omega (arith, first_is, count, length-append instances adds.made, ap (λ (xs : List LoopInst). length xs) adds.behind)
 
+  grow : Grow firsts
   grow = firsts-grow image entry graphs nests layout has.laid firsts has.firsts_are
 
   each_by : (context start other base position : ℕ) (graph : Graph) (loops : List Loop) (inst : LoopInst) (one : Loop) →
@@ -328,10 +344,10 @@ instances-more image entry graphs nests layout rounds firsts outers has done ins
       let read : slice_get adds.made position ≡ Some inst =
       sym (behind-at instances adds.made position) ∙ ap (λ (k : ℕ). slice_get (instances ++ adds.made) k) (sym number)
       ∙ ap (λ (xs : List LoopInst). slice_get xs (start + position)) (sym adds.behind) ∙ is in
-      let got = adds.are.each position inst one read (subst (λ (ls : List Loop). slice_get ls position ≡ Some one) same.loops here) in
-      subst (λ (g : Graph). IsInstanceBy g.units loops base start other one inst) (sym same.graphs)
-      (subst (λ (ls : List Loop). IsInstanceBy p.graph.units ls base start other one inst) (sym same.loops)
-      (subst (λ (b : ℕ). IsInstanceBy p.graph.units p.loops b start other one inst) (sym same.bases)
+      let got = adds.are.each position inst one read (subst (λ (ls : List Loop). slice_get ls position ≡ Some one) same.one_list here) in
+      subst (λ (g : Graph). IsInstanceBy g.units loops base start other one inst) (sym same.one_graph)
+      (subst (λ (ls : List Loop). IsInstanceBy p.graph.units ls base start other one inst) (sym same.one_list)
+      (subst (λ (b : ℕ). IsInstanceBy p.graph.units p.loops b start other one inst) (sym same.one_base)
       (subst (λ (f : ℕ). IsInstanceBy p.graph.units p.loops p.base f other one inst) (sym value)
       (subst (λ (o : ℕ). IsInstanceBy p.graph.units p.loops p.base first o one inst) (sym round) got))))
 
@@ -341,3 +357,12 @@ instances-none graphs nests layout firsts outers start = record {
   filled = start;
   each = λ context first outer base position graph loops inst one parts begins at here is. absurd (none-some inst is);
 }
+
+-- The instances of a context have numbers that aren't too great.
+pub firsts-small-all : (image : Image) (entry : ℕ) (graphs : Graphs) (nests : Nests) (layout : Layout) (rounds : List Rounds) (firsts : List ℕ) →
+    HasRounds image entry graphs nests layout rounds firsts → (context first : ℕ) → context < length layout.contexts.keys →
+    (p : PartsOf image graphs.graphs nests.nests layout context) → slice_get firsts context ≡ Some first → first + length p.loops ≤ most_places
+firsts-small-all image entry graphs nests layout rounds firsts has context first inside p there =
+    let begins = p.parts.begins in
+    omega (arith, has.firsts_are.low context first p.base there begins, loops-few image p.of.target p.graph.units p.loops p.units p.nest,
+    parts-small image entry graphs nests layout has.laid context p)

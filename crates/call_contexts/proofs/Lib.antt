@@ -13,3 +13,5 @@ pub mod Bisection
 pub mod Places
 pub mod Numbering
 mod InstanceLists
+mod RoundLists
+mod CallScopes

@@ -1,5 +1,5 @@
 -- The parts of a context of a program that is laid out, and how the numbers of its places and instances grow.
-use Rattle.std.proofs.Common.{◌≡◌, ℕ, zero, suc, ◌+◌, ◌<◌, ◌≤◌, inl, inr, List, length, map, get_or, slice_get, Contains, Option, Some, None, refl, sym, ap, subst, ◌∙◌, arith}
+use Rattle.std.proofs.Common.{◌≡◌, ℕ, zero, suc, ◌+◌, ◌<◌, ◌≤◌, inl, inr, List, [], ◌∷◌, length, map, get_or, slice_get, Contains, Option, Some, None, refl, sym, ap, subst, ◌∙◌, arith}
 use Rattle.std.specs.Prelude.{option_map}
 use Rattle.std.proofs.lemmas.Option.{get_or_from_slice_get, none-some, same_Some, slice_get-get_or, slice_get-map, slice_get_within}
 use Rattle.elf_mips.specs.declared.image.Image.{Image}
@@ -16,6 +16,7 @@ use Rattle.unit_graph.specs.declared.node.Unit.{Unit as Node}
 use Rattle.call_contexts.specs.Around.{AreUnitsOf, addresses_of}
 use Rattle.call_contexts.specs.Instances.{AreFirsts, HasParts, IsLaidProgram}
 use Rattle.call_contexts.specs.Layout.{HasGraph, HasNode}
+use Rattle.call_contexts.specs.Programs.{IsProgram}
 use Rattle.call_contexts.specs.declared.layout.Layout.{Layout}
 use Rattle.call_contexts.proofs.AroundLists.{header-among}
 use Rattle.call_contexts.proofs.Growing.{Grow, Lies, grows, zip-at}
@@ -33,6 +34,11 @@ node-at units address among =
     let one = node-by (slice_get units k) address (sym (slice_get-map (λ (n : Node). n.address) units k) ∙ there) in
     (k, record { node = one.0; there = one.1; same = one.2 })
 
+-- What is read at a position of a list.
+pub read-same : {X : Type 0} (xs ys : List X) (k n : ℕ) (x y : X) → xs ≡ ys → k ≡ n → x ≡ get_or xs k x → slice_get ys n ≡ Some y → x ≡ y
+read-same {X} xs ys k n x y list place read there =
+    read ∙ ap (λ (zs : List X). get_or zs k x) list ∙ ap (λ (p : ℕ). get_or ys p x) place ∙ get_or_from_slice_get ys n y x there
+
 -- The parts of a context.
 pub record PartsOf (image : Image) (graphs : List Graph) (nests : List (List Loop)) (layout : Layout) (context : ℕ) : Type 0 where
   pub of : Context
@@ -48,11 +54,11 @@ pub record PartsOf (image : Image) (graphs : List Graph) (nests : List (List Loo
 pub graph-units : (image : Image) (entry : ℕ) (graph : Graph) → IsGraphIn image entry graph → AreUnitsOf image graph.entry graph.units
 graph-units image entry graph is = record { rising = is.is.rising; whole = is.is.whole }
 
-pub graph-is : (image : Image) (entry : ℕ) (graphs : Graphs) (nests : Nests) (layout : Layout) → IsLaidProgram image entry graphs nests layout →
+pub graph-in : (image : Image) (entry : ℕ) (graphs : Graphs) (nests : Nests) → IsProgram image entry graphs nests →
     (position : ℕ) (graph : Graph) → slice_get graphs.graphs position ≡ Some graph → IsGraphIn image entry graph
-graph-is image entry graphs nests layout laid position graph there =
+graph-in image entry graphs nests program position graph there =
     subst (IsGraphIn image entry) (get_or_from_slice_get graphs.graphs position graph graph there)
-    (laid.program.graphs_are.each position graph (slice_get_within graphs.graphs position graph there))
+    (program.graphs_are.each position graph (slice_get_within graphs.graphs position graph there))
 
 pub parts-of : (image : Image) (entry : ℕ) (graphs : Graphs) (nests : Nests) (layout : Layout) → IsLaidProgram image entry graphs nests layout →
     (context : ℕ) → context < length layout.contexts.keys → PartsOf image graphs.graphs nests.nests layout context
@@ -60,7 +66,7 @@ parts-of image entry graphs nests layout laid context inside =
     let out = laid.layout_is.laid in
     let (graph, has) = out.each context inside in
     let looped = zip-at (IsNestOf image) graphs.graphs nests.nests laid.program.nests_are has.position graph has.is in
-    let units = graph-units image entry graph (graph-is image entry graphs nests layout laid has.position graph has.is) in
+    let units = graph-units image entry graph (graph-in image entry graphs nests laid.program has.position graph has.is) in
     record {
       of = has.of;
       there = has.there;
@@ -78,9 +84,9 @@ parts-of image entry graphs nests layout laid context inside =
 
 -- A context has one graph, one list of loops and one base.
 pub record AreSame (graph other : Graph) (loops more : List Loop) (base next : ℕ) : Type 0 where
-  pub graphs : graph ≡ other
-  pub loops : loops ≡ more
-  pub bases : base ≡ next
+  pub one_graph : graph ≡ other
+  pub one_list : loops ≡ more
+  pub one_base : base ≡ next
 
 pub graph-one : (graphs : List Graph) (layout : Layout) (context : ℕ) (graph other : Graph) →
     HasGraph graphs layout context graph → HasGraph graphs layout context other → graph ≡ other
@@ -95,9 +101,9 @@ parts-one graphs nests layout context graph other loops more base next one two =
     let place : one.has.position ≡ two.has.position =
     same_Some one.has.position two.has.position (sym one.has.listed ∙ two.has.listed) in
     record {
-      graphs = graph-one graphs layout context graph other one.has two.has;
-      loops = same_Some loops more (sym one.looped ∙ subst (λ (p : ℕ). slice_get nests p ≡ Some more) (sym place) two.looped);
-      bases = same_Some base next (sym one.begins ∙ two.begins);
+      one_graph = graph-one graphs layout context graph other one.has two.has;
+      one_list = same_Some loops more (sym one.looped ∙ subst (λ (p : ℕ). slice_get nests p ≡ Some more) (sym place) two.looped);
+      one_base = same_Some base next (sym one.begins ∙ two.begins);
     }
 
 -- A function has no more loops than units: the header of each is a unit.
