@@ -15,3 +15,12 @@ pub mod Numbering
 mod InstanceLists
 mod RoundLists
 mod CallScopes
+-- The net is nested.
+pub mod NetItems
+pub mod Numerals
+pub mod NetRanks
+pub mod NetScopes
+pub mod NetPaths
+pub mod NetNumbers
+pub mod Entering
+pub mod NestedNet
