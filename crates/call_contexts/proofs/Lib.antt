@@ -15,6 +15,9 @@ pub mod Numbering
 mod InstanceLists
 mod RoundLists
 mod CallScopes
+mod NetGround
+mod HeldUnits
+mod InstanceNet
 -- The net is nested.
 pub mod NetItems
 pub mod Numerals

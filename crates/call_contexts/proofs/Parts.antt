@@ -120,7 +120,7 @@ header-unit : (image : Image) (function : ℕ) (units : List Node) (loops : List
 header-unit image function units loops of nest position one there =
     node-at units one.header (header-among image function units loops of nest one (contains_at loops position one there))
 
-rise-headers : (image : Image) (function : ℕ) (loops : List Loop) → IsNest image function loops → (p q : ℕ) (one other : Loop) →
+pub rise-headers : (image : Image) (function : ℕ) (loops : List Loop) → IsNest image function loops → (p q : ℕ) (one other : Loop) →
     slice_get loops p ≡ Some one → slice_get loops q ≡ Some other → p < q → one.header < other.header
 rise-headers image function loops nest p q one other here there less =
     let first : get_or loops p one ≡ one = get_or_from_slice_get loops p one one here in
