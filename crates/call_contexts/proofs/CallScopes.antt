@@ -8,7 +8,7 @@ use Rattle.loop_nest.specs.declared.nest.Nests.{Nests}
 use Rattle.net_model.specs.Functions.{IsReached}
 use Rattle.unit_graph.specs.declared.graph.Graphs.{Graphs}
 use Rattle.call_contexts.specs.Around.{addresses_of}
-use Rattle.call_contexts.specs.Instances.{IsLaidProgram, IsRoundContext}
+use Rattle.call_contexts.specs.Instances.{HasLayout, IsRoundContext}
 use Rattle.call_contexts.specs.Layout.{HasNode}
 use Rattle.call_contexts.specs.declared.layout.Layout.{Layout}
 use Rattle.call_contexts.proofs.Growing.{grows}
@@ -20,7 +20,7 @@ pub record CallAt (image : Image) (graphs : Graphs) (nests : Nests) (layout : La
   pub parent : PartsOf image graphs.graphs nests.nests layout context.parent
   pub among : Contains (addresses_of parent.graph.units) context.site
 
-pub call-at : (image : Image) (entry : ℕ) (graphs : Graphs) (nests : Nests) (layout : Layout) → IsLaidProgram image entry graphs nests layout →
+pub call-at : (image : Image) (entry : ℕ) (graphs : Graphs) (nests : Nests) (layout : Layout) → HasLayout image entry graphs nests layout →
     (number : ℕ) (context : Context) → slice_get layout.contexts.keys number ≡ Some context → 0 < number →
     CallAt image graphs nests layout number context
 call-at image entry graphs nests layout laid number context there later =
@@ -41,7 +41,7 @@ pub record PlaceLow (base position count : ℕ) : Type 0 where
   pub some : 1 ≤ base + position
   pub inside : base + position - 1 < count
 
-pub call-low : (image : Image) (entry : ℕ) (graphs : Graphs) (nests : Nests) (layout : Layout) → IsLaidProgram image entry graphs nests layout →
+pub call-low : (image : Image) (entry : ℕ) (graphs : Graphs) (nests : Nests) (layout : Layout) → HasLayout image entry graphs nests layout →
     (number count : ℕ) (context : Context) → (call : CallAt image graphs nests layout number context) → (position : ℕ) →
     HasNode call.parent.graph.units context.site position → slice_get layout.bases.items number ≡ Some (count + 1) →
     PlaceLow call.parent.base position count

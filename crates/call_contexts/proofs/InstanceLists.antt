@@ -14,7 +14,7 @@ use Rattle.unit_graph.specs.declared.graph.Graph.{Graph}
 use Rattle.unit_graph.specs.declared.graph.Graphs.{Graphs}
 use Rattle.unit_graph.specs.declared.node.Unit.{Unit as Node}
 use Rattle.call_contexts.specs.Around.{AreOwn, IsNearestBy, IsOwnBy}
-use Rattle.call_contexts.specs.Instances.{AddsInstances, AreFirsts, AreInstances, AreInstancesBy, AreScopes, HasParts, HasRounds, IsInstanceBy, IsLaidProgram, IsRoundContext, IsScopeBy, scope_by}
+use Rattle.call_contexts.specs.Instances.{AddsInstances, AreFirsts, AreInstances, AreInstancesBy, AreScopes, HasParts, HasRounds, IsInstanceBy, HasLayout, IsRoundContext, IsScopeBy, scope_by}
 use Rattle.call_contexts.specs.Sizes.{most_places}
 use Rattle.call_contexts.specs.declared.around.Rounds.{Rounds}
 use Rattle.call_contexts.specs.declared.layout.Layout.{Layout}
@@ -22,7 +22,7 @@ use Rattle.call_contexts.proofs.Growing.{Grow, behind-at, front-at, grows}
 use Rattle.call_contexts.proofs.Parts.{PartsOf, bases-grow, firsts-grow, loops-few, parts-of, parts-one}
 
 -- Before the first context.
-pub firsts-none : (image : Image) (entry : ℕ) (graphs : Graphs) (nests : Nests) (layout : Layout) → IsLaidProgram image entry graphs nests layout →
+pub firsts-none : (image : Image) (entry : ℕ) (graphs : Graphs) (nests : Nests) (layout : Layout) → HasLayout image entry graphs nests layout →
     AreFirsts graphs.graphs nests.nests layout 0 (0 ∷ [])
 firsts-none image entry graphs nests layout laid = record {
   count = refl;
@@ -39,7 +39,7 @@ firsts-none image entry graphs nests layout laid = record {
   low_by (suc context) first base there begins = absurd (none-some first there)
 
 -- One context more.
-pub firsts-low : (image : Image) (entry : ℕ) (graphs : Graphs) (nests : Nests) (layout : Layout) → IsLaidProgram image entry graphs nests layout →
+pub firsts-low : (image : Image) (entry : ℕ) (graphs : Graphs) (nests : Nests) (layout : Layout) → HasLayout image entry graphs nests layout →
     (done next : ℕ) (firsts : List ℕ) → AreFirsts graphs.graphs nests.nests layout done firsts → slice_get firsts done ≡ Some next →
     (p : PartsOf image graphs.graphs nests.nests layout done) → next + length p.loops < p.base + length p.graph.units
 firsts-low image entry graphs nests layout laid done next firsts are there p =
@@ -47,19 +47,19 @@ firsts-low image entry graphs nests layout laid done next firsts are there p =
     omega (arith, are.low done next p.base there begins, loops-few image p.of.target p.graph.units p.loops p.units p.nest)
 
 -- A context's places have numbers that aren't too great, nor have its loop instances.
-pub parts-small : (image : Image) (entry : ℕ) (graphs : Graphs) (nests : Nests) (layout : Layout) → IsLaidProgram image entry graphs nests layout →
+pub parts-small : (image : Image) (entry : ℕ) (graphs : Graphs) (nests : Nests) (layout : Layout) → HasLayout image entry graphs nests layout →
     (context : ℕ) (p : PartsOf image graphs.graphs nests.nests layout context) → p.base + length p.graph.units ≤ most_places + 1
 parts-small image entry graphs nests layout laid context p =
     let out = laid.layout_is.laid in
     out.few_places (suc context) (p.base + length p.graph.units) (out.next context p.base p.graph p.parts.has p.parts.begins)
 
-pub firsts-small : (image : Image) (entry : ℕ) (graphs : Graphs) (nests : Nests) (layout : Layout) → IsLaidProgram image entry graphs nests layout →
+pub firsts-small : (image : Image) (entry : ℕ) (graphs : Graphs) (nests : Nests) (layout : Layout) → HasLayout image entry graphs nests layout →
     (done next : ℕ) (firsts : List ℕ) → AreFirsts graphs.graphs nests.nests layout done firsts → slice_get firsts done ≡ Some next →
     (p : PartsOf image graphs.graphs nests.nests layout done) → next + length p.loops ≤ most_places
 firsts-small image entry graphs nests layout laid done next firsts are there p =
     omega (arith, firsts-low image entry graphs nests layout laid done next firsts are there p, parts-small image entry graphs nests layout laid done p)
 
-pub firsts-more : (image : Image) (entry : ℕ) (graphs : Graphs) (nests : Nests) (layout : Layout) → IsLaidProgram image entry graphs nests layout →
+pub firsts-more : (image : Image) (entry : ℕ) (graphs : Graphs) (nests : Nests) (layout : Layout) → HasLayout image entry graphs nests layout →
     (done next : ℕ) (firsts : List ℕ) → AreFirsts graphs.graphs nests.nests layout done firsts → slice_get firsts done ≡ Some next →
     (p : PartsOf image graphs.graphs nests.nests layout done) →
     AreFirsts graphs.graphs nests.nests layout (done + 1) (firsts ++ (next + length p.loops) ∷ [])
@@ -364,5 +364,9 @@ pub firsts-small-all : (image : Image) (entry : ℕ) (graphs : Graphs) (nests : 
     (p : PartsOf image graphs.graphs nests.nests layout context) → slice_get firsts context ≡ Some first → first + length p.loops ≤ most_places
 firsts-small-all image entry graphs nests layout rounds firsts has context first inside p there =
     let begins = p.parts.begins in
-    omega (arith, has.firsts_are.low context first p.base there begins, loops-few image p.of.target p.graph.units p.loops p.units p.nest,
-    parts-small image entry graphs nests layout has.laid context p)
+    omega (
+      arith,
+      has.firsts_are.low context first p.base there begins,
+      loops-few image p.of.target p.graph.units p.loops p.units p.nest,
+      parts-small image entry graphs nests layout has.laid context p,
+    )

@@ -1,7 +1,8 @@
 -- A net whose loop instances and scopes were made for its layout has just the instances of its loops.
-use Rattle.std.proofs.Common.{◌≡◌, ℕ, zero, suc, ◌+◌, ◌<◌, ◌≤◌, ◌⊎◌, inl, inr, List, length, get_or, slice_get, AllPairs, Some, sym, ap, subst, ◌∙◌, arith}
+use Rattle.std.proofs.Common.{◌≡◌, ℕ, zero, suc, ◌+◌, ◌<◌, ◌≤◌, ◌⊎◌, inl, inr, List, length, get_or, slice_get, AllPairs, Option, Some, sym, ap, subst, ◌∙◌, arith}
+use Rattle.std.specs.Prelude.{option_map}
 use Rattle.std.proofs.lemmas.Bool.{cases_order}
-use Rattle.std.proofs.lemmas.Option.{none-some, same_Some, slice_get-get_or, slice_get_within}
+use Rattle.std.proofs.lemmas.Option.{none-some, same_Some, slice_get-get_or, slice_get-map, slice_get_within}
 use Rattle.elf_mips.specs.declared.image.Image.{Image}
 use Rattle.flow_net.specs.Numbers.{item_at}
 use Rattle.flow_net.specs.declared.net.Context.{Context}
@@ -57,20 +58,28 @@ round-below image net g zero context less f = absurd (omega (arith, less))
 round-below image net g (suc bound) context less f = elim (g.scopes.round context f.outer f.round) [
   | inl (first, none) ↦ inl (none, λ scope out. let later = out.later in omega (arith, later, first))
   | inr (later, call) ↦
-    let there : slice_get net.contexts context ≡ Some call.of =
-    ap (λ (cs : List Context). slice_get cs context) g.is.contexts ∙ call.there in
-    let early = call-early image net g context call.of there later in
-    let inside = f.inside in
-    let p = frame-of image net g call.of.parent (omega (arith, early, inside)) in
-    let graph = graph-one g.graphs.graphs g.layout call.of.parent call.spot.graph p.graph call.spot.has p.parts.has in
-    let base = same_Some call.spot.base p.base (sym call.spot.begins ∙ p.parts.begins) in
-    let scope = scope-made image net g call.of.parent p call.position f.outer call.number call.spot.graph call.spot.base call.node graph base
-    call.spot.there call.spot.counted call.is (round-below image net g bound call.of.parent (omega (arith, early, less)) p) in
-    round-by image net context f.outer call.of there later (subst (λ (a : ℕ). IsScopeOf image net call.of.parent a f.outer) call.site scope)
+      let there : slice_get net.contexts context ≡ Some call.of =
+      ap (λ (cs : List Context). slice_get cs context) g.is.contexts ∙ call.there in
+      let early = call-early image net g context call.of there later in
+      let inside = f.inside in
+      let p = frame-of image net g call.of.parent (omega (arith, early, inside)) in
+      let graph = graph-one g.graphs.graphs g.layout call.of.parent call.spot.graph p.graph call.spot.has p.parts.has in
+      let base = same_Some call.spot.base p.base (sym call.spot.begins ∙ p.parts.begins) in
+      let scope = scope-made image net g call.of.parent p call.position f.outer call.number call.spot.graph call.spot.base call.node graph base
+      call.spot.there call.spot.counted call.is (round-below image net g bound call.of.parent (omega (arith, early, less)) p) in
+      round-by image net context f.outer call.of there later (subst (λ (a : ℕ). IsScopeOf image net call.of.parent a f.outer) call.site scope)
 ]
 
 round-of : (image : Image) (net : Net) (g : Ground image net) (context : ℕ) (f : Frame image net g context) → IsRoundOf image net context f.outer
 round-of image net g context f = round-below image net g (suc context) context (omega arith) f
+
+-- What was made for a place.
+made-for : (image : Image) (net : Net) (g : Ground image net) (number : ℕ) (place : Place) → item_at number net.places ≡ Some place →
+    item_at number g.made.scopes.items ≡ Some place.scope
+made-for image net g zero place there = absurd (none-some place there)
+made-for image net g (suc k) place there =
+    ap (λ (xs : List ℕ). slice_get xs k) (sym g.is.scopes) ∙ slice_get-map (λ (p : Place). p.scope) net.places k
+    ∙ ap (λ (o : Option Place). option_map (λ (p : Place). p.scope) o) there
 
 -- The scope of each place.
 place-scope : (image : Image) (net : Net) (g : Ground image net) (number : ℕ) (place : Place) → item_at number net.places ≡ Some place →
@@ -84,7 +93,7 @@ place-scope image net g number place there =
     let base = same_Some spot.base f.base (sym spot.begins ∙ f.parts.begins) in
     subst (λ (a : ℕ). IsScopeOf image net place.context a place.scope) (sym placed.same)
     (scope-made image net g place.context f placed.position place.scope number spot.graph spot.base placed.node graph base spot.there spot.counted
-    (g.is.scopes number place there) (round-of image net g place.context f))
+    (made-for image net g number place there) (round-of image net g place.context f))
 
 -- Each instance.
 instance-is : (image : Image) (net : Net) (g : Ground image net) (scope : ℕ) (inst : LoopInst) → item_at scope net.loops ≡ Some inst →
@@ -119,9 +128,10 @@ header-instance image net g context header of there headed =
     let same : of ≡ f.of = same_Some of f.of (sym there ∙ f.there) in
     let here : IsHeader image f.of.target header = subst (λ (c : Context). IsHeader image c.target header) same headed in
     let found = loop-with f.loops header (f.nest.whole header here) in
-    let (position, at) = place_of f.loops found.one found.listed in
-    (suc (f.first + position),
-    subst (IsLoopAt net (suc (f.first + position)) context) found.same (loop-laid image net g context f position found.one at))
+    let (position, at) = place_of f.loops found.one found.listed in (
+      suc (f.first + position),
+      subst (IsLoopAt net (suc (f.first + position)) context) found.same (loop-laid image net g context f position found.one at),
+    )
 
 -- Instances of one context rise with the headers.
 rise-within : (image : Image) (net : Net) (g : Ground image net) (context : ℕ) (f h : Frame image net g context) (i j : ℕ) (a b : LoopInst) →
@@ -166,8 +176,8 @@ rise-by image net g i j a b here there less =
     let two = instance-of image net g j b there in
     elim (cases_order one.context two.context) as (λ _. a.header < b.header) [
       | inl same ↦
-        subst (λ (c : ℕ). (h : Frame image net g c) → InstanceIn image net g c h j b → a.header < b.header) same
-        (λ h within. rise-within image net g one.context one.frame h i j a b one.within within less) two.frame two.within
+          subst (λ (c : ℕ). (h : Frame image net g c) → InstanceIn image net g c h j b → a.header < b.header) same
+          (λ h within. rise-within image net g one.context one.frame h i j a b one.within within less) two.frame two.within
       | inr (inl before) ↦ (rise-across image net g one.context two.context one.frame two.frame i j a b one.within two.within before).0
       | inr (inr behind) ↦ absurd (
           let up = (rise-across image net g two.context one.context two.frame one.frame j i b a two.within one.within behind).1 in

@@ -14,7 +14,7 @@ use Rattle.unit_graph.specs.declared.graph.Graph.{Graph}
 use Rattle.unit_graph.specs.declared.graph.Graphs.{Graphs}
 use Rattle.unit_graph.specs.declared.node.Unit.{Unit as Node}
 use Rattle.call_contexts.specs.Around.{AreUnitsOf, addresses_of}
-use Rattle.call_contexts.specs.Instances.{AreFirsts, HasParts, IsLaidProgram}
+use Rattle.call_contexts.specs.Instances.{AreFirsts, HasParts, HasLayout}
 use Rattle.call_contexts.specs.Layout.{HasGraph, HasNode}
 use Rattle.call_contexts.specs.Programs.{IsProgram}
 use Rattle.call_contexts.specs.declared.layout.Layout.{Layout}
@@ -60,7 +60,7 @@ graph-in image entry graphs nests program position graph there =
     subst (IsGraphIn image entry) (get_or_from_slice_get graphs.graphs position graph graph there)
     (program.graphs_are.each position graph (slice_get_within graphs.graphs position graph there))
 
-pub parts-of : (image : Image) (entry : ℕ) (graphs : Graphs) (nests : Nests) (layout : Layout) → IsLaidProgram image entry graphs nests layout →
+pub parts-of : (image : Image) (entry : ℕ) (graphs : Graphs) (nests : Nests) (layout : Layout) → HasLayout image entry graphs nests layout →
     (context : ℕ) → context < length layout.contexts.keys → PartsOf image graphs.graphs nests.nests layout context
 parts-of image entry graphs nests layout laid context inside =
     let out = laid.layout_is.laid in
@@ -165,7 +165,7 @@ pub loops-few : (image : Image) (function : ℕ) (units : List Node) (loops : Li
 loops-few image function units loops of nest = few-by image function units loops of nest (length loops) refl
 
 -- The numbers of first places and of instances grow.
-pub bases-grow : (image : Image) (entry : ℕ) (graphs : Graphs) (nests : Nests) (layout : Layout) → IsLaidProgram image entry graphs nests layout →
+pub bases-grow : (image : Image) (entry : ℕ) (graphs : Graphs) (nests : Nests) (layout : Layout) → HasLayout image entry graphs nests layout →
     Grow layout.bases.items
 bases-grow image entry graphs nests layout laid k a b one other =
     let out = laid.layout_is.laid in
@@ -176,7 +176,7 @@ bases-grow image entry graphs nests layout laid k a b one other =
     let same : a + length p.graph.units ≡ b = same_Some (a + length p.graph.units) b (sym next ∙ other) in
     omega (arith, same)
 
-pub firsts-grow : (image : Image) (entry : ℕ) (graphs : Graphs) (nests : Nests) (layout : Layout) → IsLaidProgram image entry graphs nests layout →
+pub firsts-grow : (image : Image) (entry : ℕ) (graphs : Graphs) (nests : Nests) (layout : Layout) → HasLayout image entry graphs nests layout →
     (firsts : List ℕ) → AreFirsts graphs.graphs nests.nests layout (length layout.contexts.keys) firsts → Grow firsts
 firsts-grow image entry graphs nests layout laid firsts are k a b one other =
     let inside : k < length layout.contexts.keys =

@@ -1,5 +1,5 @@
 -- The loop instances of a layout and the scopes of its places, by the contexts and the positions of units and loops.
-use Rattle.std.specs.Prelude.{◌≡◌, ℕ, suc, ◌+◌, ◌<◌, ◌⊎◌, List, ◌++◌, length, Option, Some, None, slice_get}
+use Rattle.std.specs.Prelude.{◌≡◌, ℕ, suc, ◌+◌, ◌<◌, ◌⊎◌, List, ◌++◌, length, map, Option, Some, None, slice_get}
 use Rattle.elf_mips.specs.declared.image.Image.{Image}
 use Rattle.flow_net.specs.Numbers.{item_at}
 use Rattle.flow_net.specs.declared.net.Context.{Context}
@@ -19,7 +19,7 @@ use Rattle.call_contexts.specs.declared.instances.Instances.{Instances}
 use Rattle.call_contexts.specs.declared.layout.Layout.{Layout}
 
 -- A program whose contexts are laid out.
-pub record IsLaidProgram (image : Image) (entry : ℕ) (graphs : Graphs) (nests : Nests) (layout : Layout) : Type 0 where
+pub record HasLayout (image : Image) (entry : ℕ) (graphs : Graphs) (nests : Nests) (layout : Layout) : Type 0 where
   pub program : IsProgram image entry graphs nests
   pub layout_is : IsLayout image entry graphs.graphs layout
 
@@ -54,7 +54,7 @@ pub record AreFirsts (graphs : List Graph) (nests : List (List Loop)) (layout : 
 -- The loops round the units of a program that is laid out, and the numbers of its contexts' loop instances.
 pub record HasRounds (image : Image) (entry : ℕ) (graphs : Graphs) (nests : Nests) (layout : Layout) (rounds : List Rounds)
     (firsts : List ℕ) : Type 0 where
-  pub laid : IsLaidProgram image entry graphs nests layout
+  pub laid : HasLayout image entry graphs nests layout
   pub rounds_are : AreRounds graphs.graphs nests.nests (length graphs.graphs) rounds
   pub firsts_are : AreFirsts graphs.graphs nests.nests layout (length layout.contexts.keys) firsts
 
@@ -134,5 +134,4 @@ pub record HasScopes (graphs : List Graph) (layout : Layout) (made : Instances) 
   pub contexts : net.contexts ≡ layout.contexts.keys
   pub places : IsLaid graphs layout net.places
   pub loops : net.loops ≡ made.instances
-  pub scopes : (number : ℕ) (place : Place) → item_at number net.places ≡ Some place →
-      item_at number made.scopes.items ≡ Some place.scope
+  pub scopes : map (λ (place : Place). place.scope) net.places ≡ made.scopes.items

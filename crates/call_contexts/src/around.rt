@@ -110,11 +110,7 @@ fn rounds_of(alloc: Global, units: &[Unit], loops: &[Loop]) -> Result<Rounds, Al
 }
 
 /// For each function the loops round its units.
-pub fn all_rounds(
-    alloc: Global,
-    graphs: &Graphs,
-    nests: &Nests,
-) -> Result<Vec<Rounds>, AllocError>
+pub fn all_rounds(alloc: Global, graphs: &Graphs, nests: &Nests) -> Result<Vec<Rounds>, AllocError>
     requires { (image : Image) × (entry : ℕ) × IsProgram image entry graphs.now nests.now }
     ensures { IfOk result (λ rounds. AreRounds graphs.now.graphs nests.now.nests (length graphs.now.graphs) rounds.items) }
 {

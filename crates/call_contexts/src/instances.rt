@@ -1,6 +1,6 @@
 //! The loop instances of a program's contexts.
 
-ghost use Rattle.std.specs.Prelude.{◌≡◌, ◌+◌, ◌^◌, ◌<◌, ◌≤◌, ℕ, Contains, length, IfOk, OnOk};
+ghost use Rattle.std.specs.Prelude.{◌≡◌, ◌+◌, ◌^◌, ◌<◌, ◌≤◌, ℕ, suc, Contains, Some, length, slice_get, IfOk, OnOk};
 ghost use Rattle.elf_mips.specs.declared.image.Image.{Image};
 ghost use Rattle.net_model.specs.Instances.{HasInstances};
 ghost use Rattle.call_contexts.specs.Around.{AreNearest, AreOfFunction};
@@ -22,7 +22,7 @@ pub struct Instances {
     pub scopes: Vec<u32>,
 }
 
-ghost use Rattle.call_contexts.specs.Instances.{AddsInstances, AreInstances, HasRounds, HasScopes, IsInstanceBy, IsLaidProgram};
+ghost use Rattle.call_contexts.specs.Instances.{AddsInstances, AreInstances, HasRounds, HasScopes, IsInstanceBy, HasLayout};
 
 /// Where a context's places and loop instances begin, and the scope round it.
 #[derive(Clone, Copy, Debug)]
@@ -106,7 +106,13 @@ fn all_instances(
         };
         let units = graphs[function].units.as_slice();
         let loops = nests[function].as_slice();
-        add_instances(&mut instances, units, loops, rounds[function].around.as_slice(), frame)?;
+        add_instances(
+            &mut instances,
+            units,
+            loops,
+            rounds[function].around.as_slice(),
+            frame,
+        )?;
     }
     Ok(instances)
 }
@@ -122,10 +128,11 @@ pub fn instances_of(
     nests: &Nests,
     layout: &Layout,
 ) -> Result<Instances, AllocError>
-    requires { (image : Image) × (entry : ℕ) × IsLaidProgram image entry graphs.now nests.now layout.now }
+    requires { (image : Image) × (entry : ℕ) × HasLayout image entry graphs.now nests.now layout.now }
+    ensures scopes { IfOk result (λ made. slice_get layout.now.bases.items (length layout.now.contexts.keys) ≡ Some (suc (length made.scopes.items))) }
     // Each net with these contexts and places, loop instances and scopes has just the instances of its loops.
     ensures instances { IfOk result (λ made. (image : Image) (entry : ℕ) →
-        IsLaidProgram image entry graphs.now nests.now layout.now →
+        HasLayout image entry graphs.now nests.now layout.now →
         (net : Net) → HasScopes graphs.now.graphs layout.now made net → HasInstances image net) }
 {
     let rounds = all_rounds(alloc, graphs, nests)?;

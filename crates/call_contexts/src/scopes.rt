@@ -2,7 +2,7 @@
 
 ghost use Rattle.std.specs.Prelude.{◌≡◌, ◌+◌, ◌^◌, ◌<◌, ◌++◌, ℕ, All, Some, length, map, slice_get, IfOk, IfSome, OnOk};
 ghost use Rattle.elf_mips.specs.declared.image.Image.{Image};
-ghost use Rattle.call_contexts.specs.Instances.{AreFirsts, AreScopes, HasRounds, IsLaidProgram, IsRoundContext, scope_by};
+ghost use Rattle.call_contexts.specs.Instances.{AreFirsts, AreScopes, HasRounds, HasLayout, IsRoundContext, scope_by};
 
 use crate::around::Rounds;
 use crate::index::position_of;
@@ -19,7 +19,7 @@ pub fn firsts_of(
     nests: &Nests,
     layout: &Layout,
 ) -> Result<Vec<u32>, AllocError>
-    requires { (image : Image) × (entry : ℕ) × IsLaidProgram image entry graphs.now nests.now layout.now }
+    requires { (image : Image) × (entry : ℕ) × HasLayout image entry graphs.now nests.now layout.now }
     ensures { IfOk result (λ firsts. AreFirsts graphs.now.graphs nests.now.nests layout.now (length layout.now.contexts.keys) firsts.items) }
 {
     let mut firsts = Vec::new(alloc);
@@ -70,7 +70,7 @@ fn outer_of(
     number: usize,
     context: &Context,
 ) -> u32
-    requires program { (image : Image) × (entry : ℕ) × (nests : Nests) × IsLaidProgram image entry graphs.now nests layout.now }
+    requires program { (image : Image) × (entry : ℕ) × (nests : Nests) × HasLayout image entry graphs.now nests layout.now }
     requires context { slice_get layout.now.contexts.keys number ≡ Some context.now }
     requires filled { slice_get layout.now.bases.items number ≡ Some (length scopes.now + 1) }
     ensures { IsRoundContext graphs.now.graphs layout.now scopes.now number result }

@@ -44,12 +44,11 @@ rounds_of-requires c =
     c.as_slice-loops.ensures ∙ read-same c.as_slice-nests.result.now nests position position
     c.index-nests-position.result looped.partner c.as_slice-nests.ensures refl c.index-nests-position.is looped.there in
     let units : c.as_slice-units.result.now ≡ graph.units =
-    c.as_slice-units.ensures ∙ ap (λ (g : Graph). g.units) (sym c.index-graphs-position.is) in
-    (
+    c.as_slice-units.ensures ∙ ap (λ (g : Graph). g.units) (sym c.index-graphs-position.is) in (
       image,
       graph.entry,
       subst (AreUnitsOf image graph.entry) (sym units)
-      (graph-units image entry graph (graph-in image entry c.args.graphs.now c.args.nests.now program position graph there)),
+          (graph-units image entry graph (graph-in image entry c.args.graphs.now c.args.nests.now program position graph there)),
       subst (IsNest image graph.entry) (sym loops) looped.related,
     )
 

@@ -25,8 +25,12 @@ bounds-graphs-function c =
     let p = parts-of image entry graphs nests layout has.laid number inside in
     let function : c.index-function.result.now ≡ p.parts.has.position =
     c.index-function.ensures ∙ get_or_from_slice_get layout.functions.items number p.parts.has.position c.index-function.result.now p.parts.has.listed in
-    omega (arith, function, ap (λ (gs : List Graph). length gs) c.as_slice-graphs.ensures,
-    slice_get_within graphs.graphs p.parts.has.position p.graph p.parts.has.is)
+    omega (
+      arith,
+      function,
+      ap (λ (gs : List Graph). length gs) c.as_slice-graphs.ensures,
+      slice_get_within graphs.graphs p.parts.has.position p.graph p.parts.has.is,
+    )
 
 pub offset_bounds-graphs-function : goal.offset_bounds-graphs-function
 offset_bounds-graphs-function c =
@@ -41,8 +45,12 @@ offset_bounds-graphs-function c =
     let function : c.index-function.result.now ≡ p.parts.has.position =
     c.index-function.ensures ∙ get_or_from_slice_get layout.functions.items number p.parts.has.position c.index-function.result.now p.parts.has.listed in
     let within : c.index-function.result.now < length c.as_slice-graphs.result.now =
-    omega (arith, function, ap (λ (gs : List Graph). length gs) c.as_slice-graphs.ensures,
-    slice_get_within graphs.graphs p.parts.has.position p.graph p.parts.has.is) in
+    omega (
+      arith,
+      function,
+      ap (λ (gs : List Graph). length gs) c.as_slice-graphs.ensures,
+      slice_get_within graphs.graphs p.parts.has.position p.graph p.parts.has.is,
+    ) in
     omega (arith, within)
 
 pub bounds-nests-function : goal.bounds-nests-function
@@ -57,8 +65,12 @@ bounds-nests-function c =
     let p = parts-of image entry graphs nests layout has.laid number inside in
     let function : c.index-function.result.now ≡ p.parts.has.position =
     c.index-function.ensures ∙ get_or_from_slice_get layout.functions.items number p.parts.has.position c.index-function.result.now p.parts.has.listed in
-    omega (arith, function, ap (λ (ns : List (List Loop)). length ns) c.as_slice-nests.ensures,
-    slice_get_within nests.nests p.parts.has.position p.loops p.parts.looped)
+    omega (
+      arith,
+      function,
+      ap (λ (ns : List (List Loop)). length ns) c.as_slice-nests.ensures,
+      slice_get_within nests.nests p.parts.has.position p.loops p.parts.looped,
+    )
 
 pub offset_bounds-nests-function : goal.offset_bounds-nests-function
 offset_bounds-nests-function c =
@@ -73,8 +85,12 @@ offset_bounds-nests-function c =
     let function : c.index-function.result.now ≡ p.parts.has.position =
     c.index-function.ensures ∙ get_or_from_slice_get layout.functions.items number p.parts.has.position c.index-function.result.now p.parts.has.listed in
     let within : c.index-function.result.now < length c.as_slice-nests.result.now =
-    omega (arith, function, ap (λ (ns : List (List Loop)). length ns) c.as_slice-nests.ensures,
-    slice_get_within nests.nests p.parts.has.position p.loops p.parts.looped) in
+    omega (
+      arith,
+      function,
+      ap (λ (ns : List (List Loop)). length ns) c.as_slice-nests.ensures,
+      slice_get_within nests.nests p.parts.has.position p.loops p.parts.looped,
+    ) in
     omega (arith, within)
 
 pub bounds-rounds-function : goal.bounds-rounds-function
@@ -128,8 +144,7 @@ add_instances-requires-clause-function c =
     c.as_slice-units.ensures ∙ ap (λ (g : Graph). g.units) (sym c.index-graphs-function.is ∙ graph) in
     let loops : c.as_slice-loops.result.now ≡ p.loops =
     c.as_slice-loops.ensures ∙ read-same c.as_slice-nests.result.now nests.nests c.index-function.result.now p.parts.has.position
-    c.index-nests-function.result p.loops c.as_slice-nests.ensures function c.index-nests-function.is p.parts.looped in
-    (
+    c.index-nests-function.result p.loops c.as_slice-nests.ensures function c.index-nests-function.is p.parts.looped in (
       image,
       p.of.target,
       subst (AreUnitsOf image p.of.target) (sym units) p.units,
@@ -204,8 +219,11 @@ add_instances-requires-clause-instances c =
     let first = get_or c.args.firsts.now number 0 in
     let begins : slice_get c.args.firsts.now number ≡ Some first =
     slice_get-get_or c.args.firsts.now number 0 (let all = has.firsts_are.count in omega (arith, all, inside)) in
-    omega (arith, ap (λ (ls : List Loop). length ls) loops,
-    firsts-small-all image entry graphs nests layout c.args.rounds.now c.args.firsts.now has number first inside p begins)
+    omega (
+      arith,
+      ap (λ (ls : List Loop). length ls) loops,
+      firsts-small-all image entry graphs nests layout c.args.rounds.now c.args.firsts.now has number first inside p begins,
+    )
 
 pub loop-number-preserved : goal.loop-number-preserved
 loop-number-preserved c =

@@ -18,8 +18,12 @@ bounds-nests-function c =
     let p = parts-of image entry c.args.graphs.now c.args.nests.now layout laid index inside in
     let function : get_or c.deref-function-items.result.now index 0 ≡ p.parts.has.position =
     ap (λ (xs : List ℕ). get_or xs index 0) items ∙ get_or_from_slice_get layout.functions.items index p.parts.has.position 0 p.parts.has.listed in
-    omega (arith, function, ap (λ (xs : List (List Loop)). length xs) c.as_slice-nests.ensures,
-    slice_get_within c.args.nests.now.nests p.parts.has.position p.loops p.parts.looped)
+    omega (
+      arith,
+      function,
+      ap (λ (xs : List (List Loop)). length xs) c.as_slice-nests.ensures,
+      slice_get_within c.args.nests.now.nests p.parts.has.position p.loops p.parts.looped,
+    )
 
 pub offset_bounds-nests-function : goal.offset_bounds-nests-function
 offset_bounds-nests-function c =
@@ -33,8 +37,12 @@ offset_bounds-nests-function c =
     let function : get_or c.deref-function-items.result.now index 0 ≡ p.parts.has.position =
     ap (λ (xs : List ℕ). get_or xs index 0) items ∙ get_or_from_slice_get layout.functions.items index p.parts.has.position 0 p.parts.has.listed in
     let within : get_or c.deref-function-items.result.now index 0 < length c.as_slice-nests.result.now =
-    omega (arith, function, ap (λ (xs : List (List Loop)). length xs) c.as_slice-nests.ensures,
-    slice_get_within c.args.nests.now.nests p.parts.has.position p.loops p.parts.looped) in
+    omega (
+      arith,
+      function,
+      ap (λ (xs : List (List Loop)). length xs) c.as_slice-nests.ensures,
+      slice_get_within c.args.nests.now.nests p.parts.has.position p.loops p.parts.looped,
+    ) in
     omega (arith, within)
 
 pub overflow_add-next : goal.overflow_add-next
@@ -53,8 +61,11 @@ overflow_add-next c =
     let loops : c.as_slice-loops.result.now ≡ p.loops =
     c.as_slice-loops.ensures ∙ read-same c.as_slice-nests.result.now nests.nests (get_or c.deref-function-items.result.now index 0) p.parts.has.position
     c.index-nests-function.result p.loops c.as_slice-nests.ensures function c.index-nests-function.is p.parts.looped in
-    omega (arith, ap (λ (ls : List Loop). length ls) loops,
-    firsts-small image entry graphs nests layout laid index c.loop-function.next c.loop-function.firsts.items c.loop-function.invariant.0 c.loop-function.invariant.1 p)
+    omega (
+      arith,
+      ap (λ (ls : List Loop). length ls) loops,
+      firsts-small image entry graphs nests layout laid index c.loop-function.next c.loop-function.firsts.items c.loop-function.invariant.0 c.loop-function.invariant.1 p,
+    )
 
 pub overflow_cast-next : goal.overflow_cast-next
 overflow_cast-next c =
@@ -72,8 +83,11 @@ overflow_cast-next c =
     let loops : c.as_slice-loops.result.now ≡ p.loops =
     c.as_slice-loops.ensures ∙ read-same c.as_slice-nests.result.now nests.nests (get_or c.deref-function-items.result.now index 0) p.parts.has.position
     c.index-nests-function.result p.loops c.as_slice-nests.ensures function c.index-nests-function.is p.parts.looped in
-    omega (arith, ap (λ (ls : List Loop). length ls) loops,
-    firsts-small image entry graphs nests layout laid index c.loop-function.next c.loop-function.firsts.items c.loop-function.invariant.0 c.loop-function.invariant.1 p)
+    omega (
+      arith,
+      ap (λ (ls : List Loop). length ls) loops,
+      firsts-small image entry graphs nests layout laid index c.loop-function.next c.loop-function.firsts.items c.loop-function.invariant.0 c.loop-function.invariant.1 p,
+    )
 
 pub loop-function-preserved : goal.loop-function-preserved
 loop-function-preserved c =
@@ -96,9 +110,10 @@ loop-function-preserved c =
     subst (λ (xs : List ℕ). AreFirsts graphs.graphs nests.nests layout (index + 1) xs × (slice_get xs (index + 1) ≡ Some (next + length c.as_slice-loops.result.now)))
     (sym c.in_ok-push-2.ensures.items)
     (subst (λ (ls : List Loop). AreFirsts graphs.graphs nests.nests layout (index + 1) (firsts ++ (next + length ls) ∷ [])
-    × (slice_get (firsts ++ (next + length ls) ∷ []) (index + 1) ≡ Some (next + length ls))) (sym loops)
-    (firsts-more image entry graphs nests layout laid index next firsts c.loop-function.invariant.0 c.loop-function.invariant.1 p,
-    firsts-last image graphs nests layout index (next + length p.loops) firsts c.loop-function.invariant.0))
+    × (slice_get (firsts ++ (next + length ls) ∷ []) (index + 1) ≡ Some (next + length ls))) (sym loops) (
+      firsts-more image entry graphs nests layout laid index next firsts c.loop-function.invariant.0 c.loop-function.invariant.1 p,
+      firsts-last image graphs nests layout index (next + length p.loops) firsts c.loop-function.invariant.0,
+    ))
 
 pub returns : goal.returns
 returns c =

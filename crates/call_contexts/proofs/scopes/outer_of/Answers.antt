@@ -33,8 +33,12 @@ bounds-as_slice-index c =
     let p = call.parent in
     let function : c.index.result.now ≡ p.parts.has.position =
     c.index.ensures ∙ get_or_from_slice_get layout.functions.items context.parent p.parts.has.position c.index.result.now p.parts.has.listed in
-    omega (arith, function, ap (λ (gs : List Graph). length gs) c.as_slice.ensures,
-    slice_get_within graphs.graphs p.parts.has.position p.graph p.parts.has.is)
+    omega (
+      arith,
+      function,
+      ap (λ (gs : List Graph). length gs) c.as_slice.ensures,
+      slice_get_within graphs.graphs p.parts.has.position p.graph p.parts.has.is,
+    )
 
 pub offset_bounds-as_slice-index : goal.offset_bounds-as_slice-index
 offset_bounds-as_slice-index c =
@@ -48,8 +52,12 @@ offset_bounds-as_slice-index c =
     let function : c.index.result.now ≡ p.parts.has.position =
     c.index.ensures ∙ get_or_from_slice_get layout.functions.items context.parent p.parts.has.position c.index.result.now p.parts.has.listed in
     let within : c.index.result.now < length c.as_slice.result.now =
-    omega (arith, function, ap (λ (gs : List Graph). length gs) c.as_slice.ensures,
-    slice_get_within graphs.graphs p.parts.has.position p.graph p.parts.has.is) in
+    omega (
+      arith,
+      function,
+      ap (λ (gs : List Graph). length gs) c.as_slice.ensures,
+      slice_get_within graphs.graphs p.parts.has.position p.graph p.parts.has.is,
+    ) in
     omega (arith, within)
 
 pub position_of-position-requires-clause-rising : goal.position_of-position-requires-clause-rising
