@@ -1,2 +1,4 @@
 -- Laws of the net of a program.
 pub mod Items
+-- How many arcs a net has.
+pub mod WayCounts
