@@ -1,3 +1,4 @@
 -- What the net of a program says of it.
 pub mod Sizes
 pub mod Programs
+pub mod Layout

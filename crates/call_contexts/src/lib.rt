@@ -1,8 +1,10 @@
 //! The net of a program: its functions in their contexts.
 #![tactic(auto)]
 
-mod program;
 mod fault;
+mod index;
+mod layout;
+mod program;
 
-pub use program::expand;
 pub use fault::NetFault;
+pub use program::expand;
