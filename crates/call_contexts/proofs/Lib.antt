@@ -2,3 +2,5 @@
 pub mod Items
 -- How many arcs a net has.
 pub mod WayCounts
+-- Places and arcs of a layout.
+pub mod LaidOut

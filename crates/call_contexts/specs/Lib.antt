@@ -2,3 +2,6 @@
 pub mod Sizes
 pub mod Programs
 pub mod Layout
+-- Places and arcs.
+pub mod Spots
+pub mod Arcs

@@ -5,6 +5,7 @@ mod fault;
 mod index;
 mod layout;
 mod program;
+mod spots;
 
 pub use fault::NetFault;
 pub use program::expand;

@@ -1,0 +1,31 @@
+//! The units of contexts, and the numbers of their places.
+
+ghost use Rattle.std.specs.Prelude.{◌≡◌, ◌<◌, length};
+ghost use Rattle.unit_graph.specs.declared.graph.Graph.{Graph};
+ghost use Rattle.call_contexts.specs.Layout.{HasGraph, IsLaidOut};
+ghost use Rattle.call_contexts.specs.Spots.{HasNumber, IsNumberAt, IsOfProgram};
+
+use crate::index::position_of;
+use crate::layout::Layout;
+use unit_graph::{Graphs, Unit};
+
+/// The units of a context's function.
+pub fn units_in<'a>(graphs: &'a Graphs, layout: &Layout, context: usize) -> &'a [Unit]
+    requires laid { IsLaidOut graphs.now.graphs layout.now }
+    requires context { context < length layout.now.contexts.keys }
+    ensures { (graph : Graph) × HasGraph graphs.now.graphs layout.now context graph × (result.now ≡ graph.units) }
+{
+    let position = layout.functions[context];
+    graphs.graphs.as_slice()[position].units.as_slice()
+}
+
+/// The number of the place of the unit at an address in a context, by bisection.
+pub fn number_at(graphs: &Graphs, layout: &Layout, context: u32, address: u32) -> u32
+    requires program { IsOfProgram graphs.now layout.now }
+    requires there { HasNumber graphs.now.graphs layout.now context address }
+    ensures { IsNumberAt graphs.now.graphs layout.now context address result }
+{
+    let units = units_in(graphs, layout, context as usize);
+    let base = layout.bases[context as usize];
+    base + position_of(units, address) as u32
+}
