@@ -4,3 +4,5 @@ pub mod Items
 pub mod WayCounts
 -- Places and arcs of a layout.
 pub mod LaidOut
+pub mod ContextOrder
+pub mod LaidProgram

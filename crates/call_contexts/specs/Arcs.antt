@@ -30,6 +30,9 @@ pub record IsCallTo (graphs : List Graph) (layout : Layout) (context site callee
   pub is : IsMadeAs layout.contexts.keys context site callee made
   pub at : IsNumberAt graphs layout made callee to
 
+abbrev pub HasCallTo : List Graph → Layout → (context site callee : ℕ) → Type 0
+HasCallTo graphs layout context site callee = (to : ℕ) × IsCallTo graphs layout context site callee to
+
 -- The place to which a context's function returns: behind the slot of the call that made the context.
 pub record ComesBack (graphs : List Graph) (layout : Layout) (context to : ℕ) : Type 0 where
   pub later : 0 < context
@@ -40,6 +43,10 @@ pub record ComesBack (graphs : List Graph) (layout : Layout) (context to : ℕ) 
 -- Context 0 returns to 0.
 abbrev pub IsReturnTo : List Graph → Layout → (context to : ℕ) → Type 0
 IsReturnTo graphs layout context to = ((context ≡ 0) × (to ≡ 0)) ⊎ ComesBack graphs layout context to
+
+-- A context that isn't 0 has a place to return to.
+abbrev pub HasReturnTo : List Graph → Layout → (context : ℕ) → Type 0
+HasReturnTo graphs layout context = 0 < context → (to : ℕ) × ComesBack graphs layout context to
 
 -- Where a unit of a context leads to.
 pub data Leads (graphs : List Graph) (layout : Layout) (context : ℕ) (node : Node) : (to : ℕ) → Type 0 where

@@ -5,3 +5,4 @@ pub mod Layout
 -- Places and arcs.
 pub mod Spots
 pub mod Arcs
+pub mod Accesses

@@ -1,9 +1,12 @@
 //! The net of a program: its functions in their contexts.
 #![tactic(auto)]
 
+mod accesses;
+mod arcs;
 mod fault;
 mod index;
 mod layout;
+mod places;
 mod program;
 mod spots;
 

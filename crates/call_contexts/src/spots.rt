@@ -1,8 +1,9 @@
 //! The units of contexts, and the numbers of their places.
 
-ghost use Rattle.std.specs.Prelude.{◌≡◌, ◌<◌, length};
+ghost use Rattle.std.specs.Prelude.{◌≡◌, ◌<◌, ℕ, length};
 ghost use Rattle.unit_graph.specs.declared.graph.Graph.{Graph};
-ghost use Rattle.call_contexts.specs.Layout.{HasGraph, IsLaidOut};
+ghost use Rattle.unit_graph.specs.declared.node.Unit.{Unit as Node};
+ghost use Rattle.call_contexts.specs.Layout.{HasGraph, IsLaidOut, IsSpot};
 ghost use Rattle.call_contexts.specs.Spots.{HasNumber, IsNumberAt, IsOfProgram};
 
 use crate::index::position_of;
@@ -28,4 +29,15 @@ pub fn number_at(graphs: &Graphs, layout: &Layout, context: u32, address: u32) -
     let units = units_in(graphs, layout, context as usize);
     let base = layout.bases[context as usize];
     base + position_of(units, address) as u32
+}
+
+/// The unit of the place of a number in a context.
+pub fn unit_at<'a>(graphs: &'a Graphs, layout: &Layout, context: u32, number: u32) -> &'a Unit
+    requires laid { IsLaidOut graphs.now.graphs layout.now }
+    requires there { (position : ℕ) × (node : Node) × IsSpot graphs.now.graphs layout.now context position node number }
+    ensures { (position : ℕ) × IsSpot graphs.now.graphs layout.now context position result.now number }
+{
+    let units = units_in(graphs, layout, context as usize);
+    let position = number - layout.bases[context as usize];
+    &units[position as usize]
 }
