@@ -6,3 +6,7 @@ pub mod WayCounts
 pub mod LaidOut
 pub mod ContextOrder
 pub mod LaidProgram
+-- Sizes and layout of the contexts.
+pub mod Bisection
+pub mod Places
+pub mod Numbering

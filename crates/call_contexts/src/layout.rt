@@ -38,6 +38,7 @@ impl Layout {
             site,
             target: callee,
         };
+        prove!(self.contexts.len() <= 16384);
         match self.contexts.get_index_of(&context) {
             Some(number) => number as u32,
             None => unreachable!(),

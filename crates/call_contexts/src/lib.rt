@@ -6,7 +6,6 @@ mod arcs;
 mod fault;
 mod index;
 mod layout;
-mod places;
 mod program;
 mod spots;
 
