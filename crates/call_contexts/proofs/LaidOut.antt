@@ -1,7 +1,7 @@
 -- Numbers of places in a layout: they rise with the contexts, and in one context with the units.
-use Rattle.std.proofs.Common.{◌≡◌, ℕ, zero, suc, ◌+◌, ◌<◌, ◌≤◌, ◌⊎◌, inl, inr, List, [], ◌∷◌, length, slice_get, Option, Some, None, refl, sym, ap, subst, ◌∙◌, arith}
+use Rattle.std.proofs.Common.{◌≡◌, ℕ, zero, suc, ◌+◌, ◌<◌, ◌≤◌, ◌⊎◌, inl, inr, List, [], ◌∷◌, length, get_or, slice_get, Option, Some, None, refl, sym, ap, subst, ◌∙◌, arith}
 use Rattle.std.proofs.lemmas.Bool.{cases_lt}
-use Rattle.std.proofs.lemmas.Option.{none-some, same_Some, slice_get_within}
+use Rattle.std.proofs.lemmas.Option.{get_or_from_slice_get, none-some, same_Some, slice_get_read, slice_get_within}
 use Rattle.flow_net.specs.declared.net.Context.{Context}
 use Rattle.unit_graph.specs.declared.graph.Graph.{Graph}
 use Rattle.unit_graph.specs.declared.node.Unit.{Unit as Node}
@@ -177,3 +177,29 @@ pub spot-positive : (graphs : List Graph) (layout : Layout) (context position : 
     IsSpot graphs layout context position node number → 0 < number
 spot-positive graphs layout context position node number laid spot =
     omega (arith, spot.counted, base-positive graphs layout context spot.base laid spot.begins)
+
+-- What is read of the positions of graphs is the position of the context's graph.
+pub position-read : (graphs : List Graph) (layout : Layout) (context read : ℕ) (graph : Graph) → (has : HasGraph graphs layout context graph) →
+    read ≡ get_or layout.functions.items context read → read ≡ has.position
+position-read graphs layout context read graph has is =
+    is ∙ get_or_from_slice_get layout.functions.items context has.position read has.listed
+
+pub position-within : (graphs : List Graph) (layout : Layout) (context read : ℕ) (graph : Graph) → (has : HasGraph graphs layout context graph) →
+    read ≡ get_or layout.functions.items context read → read < length graphs
+position-within graphs layout context read graph has is =
+    omega (
+      arith,
+      position-read graphs layout context read graph has is,
+      slice_get_within graphs has.position graph has.is,
+    )
+
+pub base-read : (graphs : List Graph) (layout : Layout) (context read : ℕ) (graph : Graph) → IsLaidOut graphs layout →
+    HasGraph graphs layout context graph → read ≡ get_or layout.bases.items context read → slice_get layout.bases.items context ≡ Some read
+base-read graphs layout context read graph laid has is =
+    slice_get_read layout.bases.items (length layout.bases.items) context read refl
+    (omega (arith, laid.bases, graph-within graphs layout context graph has)) is
+
+pub units-few : (graphs : List Graph) (layout : Layout) (context base : ℕ) (graph : Graph) → IsLaidOut graphs layout →
+    HasGraph graphs layout context graph → slice_get layout.bases.items context ≡ Some base → base + length graph.units ≤ most_places + 1
+units-few graphs layout context base graph laid has begins =
+    laid.few_places (suc context) (base + length graph.units) (laid.next context base graph has begins)

@@ -26,6 +26,7 @@ use Rattle.call_contexts.specs.Layout.{HasGraph, HasNode, IsLaidOut, IsMadeAs, I
 use Rattle.call_contexts.specs.Spots.{HasNumber, IsLaidProgram, IsNumberAt}
 use Rattle.call_contexts.specs.declared.layout.Layout.{Layout}
 use Rattle.call_contexts.proofs.LaidOut.{base-at, graph-once, one-at, spot-inner}
+use Rattle.call_contexts.proofs.Places.{contains_at, map_at}
 
 pub all-at : {T : Type 0} (P : T → Type 0) (items : List T) (k : ℕ) (item : T) → All P items → slice_get items k ≡ Some item → P item
 all-at P items k item each there =
@@ -207,3 +208,39 @@ number-once image entry graphs layout context a n m laid one other =
       by_order (inl before) h = absurd (no p q a b one other level before)
       by_order (inr most) (inl above) = absurd (no q p b a other one (sym level) above)
       by_order (inr most) (inr least) = omega (arith, most, least)
+
+-- The units of a context, as they are read.
+pub units-rise : (image : Image) (entry : ℕ) (graphs : Graphs) (layout : Layout) (context : ℕ) (graph : Graph) (units : List Node) →
+    IsLaidProgram image entry graphs layout → HasGraph graphs.graphs layout context graph → units ≡ graph.units →
+    AllPairs (λ (a b : Node). a.address < b.address) units
+units-rise image entry graphs layout context graph units laid has same =
+    subst (AllPairs (λ (a b : Node). a.address < b.address)) (sym same) (graph-is image entry graphs layout context graph laid has).rising
+
+pub address-among : (graphs : List Graph) (layout : Layout) (context address number : ℕ) (graph : Graph) (units : List Node) →
+    HasGraph graphs layout context graph → units ≡ graph.units → IsNumberAt graphs layout context address number →
+    Contains (map (λ (node : Node). node.address) units) address
+address-among graphs layout context address number graph units has same is =
+    let graph_same : is.spot.graph ≡ graph = graph-once graphs layout context is.spot.graph graph is.spot.has has in
+    let there : slice_get units is.position ≡ Some is.node =
+    subst (λ (nodes : List Node). slice_get nodes is.position ≡ Some is.node) (sym same)
+    (subst (λ (g : Graph). slice_get g.units is.position ≡ Some is.node) graph_same is.spot.there) in
+    contains_at (map (λ (node : Node). node.address) units) is.position address
+    (map_at (λ (node : Node). node.address) units is.position is.node there ∙ ap (λ (a : ℕ). Some a) is.same)
+
+-- What bisection finds is the place of the address.
+pub number-found : (graphs : List Graph) (layout : Layout) (context address base position : ℕ) (graph : Graph) (units : List Node) →
+    HasGraph graphs layout context graph → units ≡ graph.units → slice_get layout.bases.items context ≡ Some base →
+    HasNode units address position → IsNumberAt graphs layout context address (base + position)
+number-found graphs layout context address base position graph units has same begins found = record {
+  position = position;
+  node = found.node;
+  spot = record {
+    graph = graph;
+    has = has;
+    there = subst (λ (nodes : List Node). slice_get nodes position ≡ Some found.node) same found.there;
+    base = base;
+    begins = begins;
+    counted = refl;
+  };
+  same = found.same;
+}
