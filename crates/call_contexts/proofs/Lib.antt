@@ -10,3 +10,4 @@ pub mod LaidProgram
 pub mod Bisection
 pub mod Places
 pub mod Numbering
+pub mod Adding
