@@ -11,3 +11,5 @@ pub mod Bisection
 pub mod Places
 pub mod Numbering
 pub mod Adding
+pub mod Zips
+pub mod Quiet
