@@ -13,3 +13,4 @@ pub mod Numbering
 pub mod Adding
 pub mod Zips
 pub mod Quiet
+pub mod Targets

@@ -180,7 +180,7 @@ ways-few image unit address = by_stop (stops unit) where
   by_stop false = own-few image unit.instr address
 
 -- Where a unit goes on is one of its ways, or stands behind its slot.
-same-unit : (image : Image) (address : ℕ) (unit other : CodeUnit) → unit_at image address ≡ Stands unit →
+pub same-unit : (image : Image) (address : ℕ) (unit other : CodeUnit) → unit_at image address ≡ Stands unit →
     unit_at image address ≡ Stands other → other ≡ unit
 same-unit image address unit other stands at = cc
 
