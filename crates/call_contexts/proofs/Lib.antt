@@ -14,3 +14,4 @@ pub mod Adding
 pub mod Zips
 pub mod Quiet
 pub mod Targets
+pub mod Laying
