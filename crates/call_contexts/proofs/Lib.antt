@@ -15,3 +15,5 @@ pub mod Zips
 pub mod Quiet
 pub mod Targets
 pub mod Laying
+pub mod Leading
+pub mod ArcCounts
