@@ -1,24 +1,27 @@
 -- How many arcs the places so far have: each call leads to a context of its own, so that the calls are fewer than the contexts.
-use Rattle.std.proofs.Common.{◌≡◌, ℕ, zero, suc, ◌+◌, ◌*◌, ◌<◌, ◌≤◌, ◌^◌, ◌⊎◌, inl, inr, List, [], ◌∷◌, ◌++◌, length, map, get_or, slice_get, All, AllPairs, Contains, Some, refl, sym, ap, subst, ◌∙◌, arith, length-append}
+use Rattle.std.proofs.Common.{◌≡◌, ℕ, zero, suc, ◌+◌, ◌*◌, ◌<◌, ◌≤◌, ◌^◌, ◌⊎◌, inl, inr, List, [], ◌∷◌, ◌++◌, length, map, take, get_or, slice_get, All, AllPairs, Contains, Some, refl, sym, ap, subst, ◌∙◌, arith, length-append}
 use Rattle.std.specs.List.{AllZip}
+use Rattle.std.specs.Prelude.{sum_by}
 use Rattle.std.proofs.lemmas.List.{length-map}
 use Rattle.std.proofs.lemmas.List.Elements.{All-append, All-head, All-nil, All-tail, All-weaker}
+use Rattle.std.proofs.lemmas.List.Sums.{sum_by_more, sum_by-take-le}
 use Rattle.std.proofs.lemmas.Option.{get_or_from_slice_get, slice_get_within}
 use Rattle.elf_mips.specs.declared.image.Image.{Image}
 use Rattle.flow_net.specs.declared.net.Context.{Context}
 use Rattle.flow_net.specs.declared.net.NetArc.{NetArc}
 use Rattle.net_model.specs.Contexts.{IsContextBefore, made_by}
+use Rattle.loop_nest.proofs.Ordered.{pairs-head, pairs-tail}
 use Rattle.unit_graph.specs.declared.graph.Graph.{Graph}
 use Rattle.unit_graph.specs.declared.graph.Graphs.{Graphs}
 use Rattle.unit_graph.specs.declared.node.Unit.{Unit as Node}
 use Rattle.call_contexts.specs.Arcs.{AreTargets, HasCallTo, arcs_from, arc_to}
-use Rattle.call_contexts.specs.Layout.{IsLaidOut, IsMadeAs, IsSpot}
+use Rattle.call_contexts.specs.Layout.{HasGraph, IsLaidOut, IsMadeAs, IsSpot}
 use Rattle.call_contexts.specs.Spots.{IsLaidProgram, IsNumberAt}
 use Rattle.call_contexts.specs.declared.layout.Layout.{Layout}
 use Rattle.call_contexts.proofs.ContextOrder.{context-lower, made-rises}
 use Rattle.call_contexts.proofs.LaidOut.{IsLower, graph-once, one-at, spot-before}
 use Rattle.call_contexts.proofs.LaidProgram.{calls-there, graph-is, node-is}
-use Rattle.call_contexts.proofs.WayCounts.{weight}
+use Rattle.call_contexts.proofs.WayCounts.{weight, weights-few}
 use Rattle.call_contexts.proofs.Zips.{pairs-append, pairs-nil, zip-length, zip-pairs, zip-sound}
 
 -- A further context is made by a call at a place below a number.
@@ -149,3 +152,44 @@ counted-more image entry graphs layout context position node number room targets
         zip-length (IsMadeFor layout context node.address) node.calls news zip,
       );
     }
+
+-- Rising numbers below a limit are no more than it.
+rising-from : (xs : List ℕ) (least limit : ℕ) → least ≤ limit → AllPairs (λ (a b : ℕ). a < b) xs → All (λ (x : ℕ). least ≤ x) xs →
+    All (λ (x : ℕ). x < limit) xs → least + length xs ≤ limit
+rising-from [] least limit fits rising above below = omega (arith, fits)
+rising-from (x ∷ xs) least limit fits rising above below =
+    let here : least ≤ x = All-head (λ (y : ℕ). least ≤ y) x xs above in
+    let lower : x < limit = All-head (λ (y : ℕ). y < limit) x xs below in
+    let rest = rising-from xs (suc x) limit (omega (arith, lower)) (pairs-tail (λ (a b : ℕ). a < b) x xs rising)
+    (All-weaker (λ (y : ℕ). x < y) (λ (y : ℕ). suc x ≤ y) (λ y less. omega (arith, less)) xs (pairs-head (λ (a b : ℕ). a < b) x xs rising))
+    (All-tail (λ (y : ℕ). y < limit) x xs below) in
+    omega (arith, rest, here)
+
+-- So there are at most 2 ^ 25 arcs.
+pub counted-all : (graphs : List Graph) (layout : Layout) (last : ℕ) (arcs : List NetArc) → IsLaidOut graphs layout →
+    slice_get layout.bases.items (length layout.contexts.keys) ≡ Some last → AreCounted graphs layout last (last * 260) arcs →
+    length arcs ≤ 2 ^ 25
+counted-all graphs layout last arcs laid ends counted =
+    let made : 0 + length counted.made ≤ length layout.contexts.keys =
+    rising-from counted.made 0 (length layout.contexts.keys) (omega arith) counted.rising (λ k d inside. omega arith)
+    (All-weaker (IsMadeBelow graphs layout last) (λ (m : ℕ). m < length layout.contexts.keys)
+    (λ m one. slice_get_within layout.contexts.keys m one.of one.there) counted.made counted.below) in
+    omega (arith, made, counted.few, laid.few_contexts, laid.few_places (length layout.contexts.keys) last ends)
+
+-- The arcs of the units of a context.
+pub room-more : (base position : ℕ) (units : List Node) (unit : Node) → position < length units → unit ≡ get_or units position unit →
+    base * 260 + sum_by weight (take position units) + weight unit ≡ base * 260 + sum_by weight (take (position + 1) units)
+room-more base position units unit inside read =
+    omega (arith, sum_by_more weight units position unit inside, ap weight read)
+
+pub room-full : (image : Image) (entry : ℕ) (graphs : Graphs) (layout : Layout) (context base position : ℕ) (graph : Graph) (units : List Node) →
+    IsLaidProgram image entry graphs layout → HasGraph graphs.graphs layout context graph → units ≡ graph.units →
+    base * 260 + sum_by weight (take position units) ≤ (base + length graph.units) * 260
+room-full image entry graphs layout context base position graph units laid has same =
+    let is = graph-is image entry graphs layout context graph laid has in
+    omega (
+      arith,
+      sum_by-take-le weight units position,
+      ap (λ (nodes : List Node). sum_by weight nodes) same,
+      weights-few image graph.entry graph is image.counted,
+    )
