@@ -17,3 +17,4 @@ pub mod Targets
 pub mod Laying
 pub mod Leading
 pub mod ArcCounts
+pub mod PlaceAccesses
