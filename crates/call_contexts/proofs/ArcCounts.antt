@@ -71,7 +71,7 @@ made-list graphs layout context site (callee ∷ calls) each =
     (is.made ∷ made, (is.is, rest))
 
 -- In one context the earlier unit has the lesser address.
-position-address : (image : Image) (entry : ℕ) (graphs : Graphs) (layout : Layout) (context p q : ℕ) (a b : Node) (n m : ℕ) →
+pub position-address : (image : Image) (entry : ℕ) (graphs : Graphs) (layout : Layout) (context p q : ℕ) (a b : Node) (n m : ℕ) →
     IsLaidProgram image entry graphs layout → IsSpot graphs.graphs layout context p a n → IsSpot graphs.graphs layout context q b m →
     p < q → a.address < b.address
 position-address image entry graphs layout context p q a b n m laid one other less =

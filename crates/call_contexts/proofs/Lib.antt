@@ -18,3 +18,5 @@ pub mod Laying
 pub mod Leading
 pub mod ArcCounts
 pub mod PlaceAccesses
+pub mod HasItsPlaces
+pub mod HasItsArcs
