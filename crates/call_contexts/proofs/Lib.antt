@@ -20,3 +20,12 @@ pub mod ArcCounts
 pub mod PlaceAccesses
 pub mod HasItsPlaces
 pub mod HasItsArcs
+-- The net is nested.
+pub mod NetItems
+pub mod Numerals
+pub mod NetRanks
+pub mod NetScopes
+pub mod NetPaths
+pub mod NetNumbers
+pub mod Entering
+pub mod NestedNet
