@@ -29,3 +29,12 @@ pub mod NetPaths
 pub mod NetNumbers
 pub mod Entering
 pub mod NestedNet
+-- A program has one net.
+pub mod Keyed
+pub mod ContextsOnce
+pub mod ScopesOnce
+pub mod NetOnce
+-- A program has one number of contexts and one of places.
+pub mod GraphCalls
+pub mod SizesOnce
+pub mod SameSizes
