@@ -38,3 +38,5 @@ pub mod NetOnce
 pub mod GraphCalls
 pub mod SizesOnce
 pub mod SameSizes
+-- Runs go along paths.
+pub mod RunPaths

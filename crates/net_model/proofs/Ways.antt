@@ -1,15 +1,19 @@
--- Where a jump or branch goes is one of its ways.
-use Rattle.std.proofs.Common.{◌≡◌, ℕ, ◌+◌, ◌==◌, ◌&&◌, ◌⊎◌, inl, inr, Bool, true, false, not, cond, List, [], ◌∷◌, ◌++◌, Some, Contains, refl, ap, subst, ◌∙◌, arith}
+-- Where a jump or branch goes is one of its ways, what it calls, or back to its caller.
+use Rattle.std.proofs.Common.{◌≡◌, ℕ, ◌+◌, ◌==◌, ◌&&◌, Bool, true, false, not, cond, List, [], ◌∷◌, ◌++◌, Some, Contains, refl, ap, sym, subst, ◌∙◌, arith}
 use Rattle.std.proofs.lemmas.Bool.Decides.{nat_tests}
 use Rattle.std.proofs.lemmas.List.Elements.{Contains-append_right}
+use Rattle.elf_mips.specs.declared.image.Image.{Image}
 use Rattle.mips_decode.specs.declared.instr.BranchOp.{BranchOp}
 use Rattle.mips_decode.specs.declared.instr.BranchOp.TheVariants.{Beq, Bne, Blez, Bgtz, Bltz, Bgez, Bltzal, Bgezal}
 use Rattle.mips_decode.specs.declared.instr.Instr.{Instr}
 use Rattle.mips_decode.specs.declared.instr.Instr.TheVariants.{Three, Shift, HiLo, MulDiv, Imm, Lui, Load, Store, Branch, Jump, JumpReg, JumpLink, Stop}
 use Rattle.mips_decode.specs.declared.step.Regs.{Regs}
 use Rattle.mips_decode.specs.Effect.{reg}
-use Rattle.mips_decode.specs.Transfer.{Linking, Straight, Returns, Decided, branch_links, branch_target, branch_way, decided, is_taken, jump_target, link_address, link_of, linked}
-use Rattle.net_model.specs.Onward.{is_call, is_indirect, is_return, may_be_passed, may_be_taken, ways_of}
+use Rattle.mips_decode.specs.Records.{GoesToRecorded}
+use Rattle.mips_decode.specs.Transfer.{Linking, Straight, Calls, Returns, Decided, branch_links, branch_target, branch_way, call_of, decided, is_taken, jump_link_way, jump_target, jump_way, link_address, link_of, linked}
+use Rattle.net_model.specs.Flow.{callees, own_ways}
+use Rattle.net_model.specs.Onward.{is_return, may_be_passed, may_be_taken}
+use Rattle.net_model.specs.Targets.{targets_at}
 use Rattle.net_model.proofs.Zero.{IsZero, with_reg-zero}
 
 -- What the tests of branches say of registers that are 0, or of a register and itself.
@@ -83,70 +87,90 @@ passed-may Bgezal rs rt regs is passed = by_test (rs == 0) refl where
       let no : true ≡ false = subst (λ (n : ℕ). is_taken Bgezal n (reg regs rt) ≡ false) none passed in cc
   by_test false same = refl
 
--- A way of an instruction that isn't a call nor an indirect jump: onward in the function, or back to its caller.
-pub record GoesItsWay (instr : Instr) (pc : ℕ) (way : Decided) : Type 0 where
-  pub goes : ((way.link ≡ Straight) × Contains (ways_of instr pc) way.next)
-      ⊎ ((way.link ≡ Returns) × (is_return instr ≡ true))
-
-linked-zero : (links : Bool) (pc : ℕ) (regs : Regs) → IsZero regs → IsZero (linked links pc regs)
-linked-zero true pc regs is = with_reg-zero regs 31 (link_address pc) is
-linked-zero false pc regs is = is
-
-record BranchGoes (may passed : Bool) (pc target : ℕ) (way : Decided) : Type 0 where
-  link : way.link ≡ Straight
-  next : Contains ((cond may (target ∷ []) []) ++ (cond passed ((pc + 8) ∷ []) [])) way.next
+-- Where a jump or branch goes: on one of its own ways, to a function that it calls, or back to its caller.
+abbrev pub GoesItsWay : Image → Instr → (pc : ℕ) → Linking → (next : ℕ) → Type 0
+GoesItsWay image instr pc Straight next = Contains (own_ways image instr pc) next
+GoesItsWay image instr pc (Calls call) next =
+    (call ≡ record { site = pc; target = next }) × Contains (callees image instr pc) next
+GoesItsWay image instr pc Returns next = is_return instr ≡ true
 
 here-first : (n : ℕ) (more : List ℕ) → Contains (n ∷ more) n
 here-first n more = (0, Prim.omega arith, refl)
 
-branch-goes : (links taken may passed : Bool) (pc target : ℕ) (regs : Regs) →
-    (taken ≡ true → may ≡ true) → (taken ≡ false → passed ≡ true) → (links && may) ≡ false →
-    BranchGoes may passed pc target (branch_way links taken pc target regs)
-branch-goes true true true passed pc target regs forward behind call = cc
-branch-goes false true true passed pc target regs forward behind call =
-    record { link = refl; next = here-first target _ }
-branch-goes links true false passed pc target regs forward behind call =
-    absurd (let no : false ≡ true = forward refl in cc)
-branch-goes true false may true pc target regs forward behind call =
-    record { link = refl; next = Contains-append_right (cond may (target ∷ []) []) ((pc + 8) ∷ []) (pc + 8) (here-first (pc + 8) []) }
-branch-goes false false may true pc target regs forward behind call =
-    record { link = refl; next = Contains-append_right (cond may (target ∷ []) []) ((pc + 8) ∷ []) (pc + 8) (here-first (pc + 8) []) }
-branch-goes links false may false pc target regs forward behind call =
-    absurd (let no : false ≡ true = behind refl in cc)
+-- The same of a branch that may be taken and may be passed.
+abbrev BranchGoes : (links may passed : Bool) → (pc target : ℕ) → Linking → (next : ℕ) → Type 0
+BranchGoes links may passed pc target Straight next =
+    Contains (cond links (cond passed ((pc + 8) ∷ []) []) (cond may (target ∷ []) [] ++ cond passed ((pc + 8) ∷ []) [])) next
+BranchGoes links may passed pc target (Calls call) next =
+    (call ≡ record { site = pc; target = next }) × Contains (cond (links && may) (target ∷ []) []) next
+BranchGoes links may passed pc target Returns next = ⊥
 
-return-goes : (b : Bool) (rs pc : ℕ) (regs : Regs) → (rs == 31) ≡ b → not b ≡ false →
-    (link_of rs ≡ Returns) × ((rs == 31) ≡ true)
-return-goes true rs pc regs same other = (ap (λ (b : Bool). cond b Returns Straight) same, same)
-return-goes false rs pc regs same other = cc
+branch-goes : (links taken may passed : Bool) (pc target : ℕ) → (taken ≡ true → may ≡ true) → (taken ≡ false → passed ≡ true) →
+    BranchGoes links may passed pc target (call_of (links && taken) pc target) (cond taken target (pc + 8))
+branch-goes true true true passed pc target forward behind = (refl, here-first target [])
+branch-goes false true true passed pc target forward behind = here-first target _
+branch-goes links true false passed pc target forward behind = absurd (let no : false ≡ true = forward refl in cc)
+branch-goes true false may true pc target forward behind = here-first (pc + 8) []
+branch-goes false false may true pc target forward behind =
+    Contains-append_right (cond may (target ∷ []) []) ((pc + 8) ∷ []) (pc + 8) (here-first (pc + 8) [])
+branch-goes links false may false pc target forward behind = absurd (let no : false ≡ true = behind refl in cc)
 
-pub decided-goes : (instr : Instr) (pc : ℕ) (regs : Regs) (way : Decided) → IsZero regs → is_call instr ≡ false →
-    is_indirect instr ≡ false → decided instr pc regs ≡ Some way → GoesItsWay instr pc way
-decided-goes (Branch op rs rt offset) pc regs way is call indirect same =
+branch-way : (image : Image) (op : BranchOp) (rs rt offset pc : ℕ) (link : Linking) (next : ℕ) →
+    BranchGoes (branch_links op) (may_be_taken op rs rt) (may_be_passed op rs rt) pc (branch_target pc offset) link next →
+    GoesItsWay image (Branch op rs rt offset) pc link next
+branch-way image op rs rt offset pc Straight next goes = goes
+branch-way image op rs rt offset pc (Calls call) next goes = goes
+branch-way image op rs rt offset pc Returns next goes = absurd goes
+
+register-way : (image : Image) (rs pc next : ℕ) (b : Bool) → (rs == 31) ≡ b → (not b ≡ true → Contains (targets_at image pc) next) →
+    GoesItsWay image (JumpReg rs) pc (cond b Returns Straight) next
+register-way image rs pc next true same keeps = same
+register-way image rs pc next false same keeps = rw same (keeps refl)
+
+-- The way that a jump or branch decides, where its target is recorded if it needs a record.
+pub decided-goes : (image : Image) (instr : Instr) (pc : ℕ) (regs : Regs) (way : Decided) → IsZero regs →
+    GoesToRecorded (targets_at image pc) instr way.next → decided instr pc regs ≡ Some way →
+    GoesItsWay image instr pc way.link way.next
+decided-goes image (Branch op rs rt offset) pc regs way is keeps same =
     let taken : Bool = is_taken op (reg regs rs) (reg regs rt) in
-    let goes = branch-goes (branch_links op) taken (may_be_taken op rs rt) (may_be_passed op rs rt) pc (branch_target pc offset) regs
-    (taken-may op rs rt regs is) (passed-may op rs rt regs is) call in
-    let here : branch_way (branch_links op) taken pc (branch_target pc offset) regs ≡ way = cc in
-    subst (GoesItsWay (Branch op rs rt offset) pc) here
-    (record { goes = inl (goes.link, goes.next) })
-decided-goes (Jump true index) pc regs way is call indirect same = cc
-decided-goes (Jump false index) pc regs way is call indirect same =
-    let here : record { next = jump_target pc index; regs = regs; link = Straight } ≡ way = cc in
-    subst (GoesItsWay (Jump false index) pc) here
-    (record { goes = inl (refl, here-first (jump_target pc index) []) })
-decided-goes (JumpReg rs) pc regs way is call indirect same =
-    let back = return-goes (rs == 31) rs pc regs refl indirect in
+    let target : ℕ = branch_target pc offset in
+    let goes = branch-way image op rs rt offset pc (call_of (branch_links op && taken) pc target) (cond taken target (pc + 8))
+    (branch-goes (branch_links op) taken (may_be_taken op rs rt) (may_be_passed op rs rt) pc target
+    (taken-may op rs rt regs is) (passed-may op rs rt regs is)) in
+    let here : branch_way (branch_links op) taken pc target regs ≡ way = cc in
+    subst (λ (w : Decided). GoesItsWay image (Branch op rs rt offset) pc w.link w.next) here goes
+decided-goes image (Jump true index) pc regs way is keeps same =
+    let here : jump_way true pc (jump_target pc index) regs ≡ way = cc in
+    subst (λ (w : Decided). GoesItsWay image (Jump true index) pc w.link w.next) here
+    (refl, here-first (jump_target pc index) [])
+decided-goes image (Jump false index) pc regs way is keeps same =
+    let here : jump_way false pc (jump_target pc index) regs ≡ way = cc in
+    subst (λ (w : Decided). GoesItsWay image (Jump false index) pc w.link w.next) here
+    (here-first (jump_target pc index) [])
+decided-goes image (JumpReg rs) pc regs way is keeps same =
     let here : record { next = reg regs rs; regs = regs; link = link_of rs } ≡ way = cc in
-    subst (GoesItsWay (JumpReg rs) pc) here (record { goes = inr back })
-decided-goes (JumpLink rd rs) pc regs way is call indirect same = cc
-decided-goes (Three op rd rs rt) pc regs way is call indirect same = cc
-decided-goes (Shift op rd rt by) pc regs way is call indirect same = cc
-decided-goes (HiLo op number) pc regs way is call indirect same = cc
-decided-goes (MulDiv op rs rt) pc regs way is call indirect same = cc
-decided-goes (Imm op rt rs imm) pc regs way is call indirect same = cc
-decided-goes (Lui rt imm) pc regs way is call indirect same = cc
-decided-goes (Load op rt base offset) pc regs way is call indirect same = cc
-decided-goes (Store op rt base offset) pc regs way is call indirect same = cc
-decided-goes (Stop op code) pc regs way is call indirect same = cc
+    let recorded : GoesToRecorded (targets_at image pc) (JumpReg rs) (reg regs rs) =
+    subst (λ (w : Decided). GoesToRecorded (targets_at image pc) (JumpReg rs) w.next) (sym here) keeps in
+    subst (λ (w : Decided). GoesItsWay image (JumpReg rs) pc w.link w.next) here
+    (register-way image rs pc (reg regs rs) (rs == 31) refl recorded)
+decided-goes image (JumpLink rd rs) pc regs way is keeps same =
+    let here : jump_link_way rd (reg regs rs) pc regs ≡ way = cc in
+    let recorded : GoesToRecorded (targets_at image pc) (JumpLink rd rs) (reg regs rs) =
+    subst (λ (w : Decided). GoesToRecorded (targets_at image pc) (JumpLink rd rs) w.next) (sym here) keeps in
+    subst (λ (w : Decided). GoesItsWay image (JumpLink rd rs) pc w.link w.next) here (refl, recorded refl)
+decided-goes image (Three op rd rs rt) pc regs way is keeps same = cc
+decided-goes image (Shift op rd rt by) pc regs way is keeps same = cc
+decided-goes image (HiLo op number) pc regs way is keeps same = cc
+decided-goes image (MulDiv op rs rt) pc regs way is keeps same = cc
+decided-goes image (Imm op rt rs imm) pc regs way is keeps same = cc
+decided-goes image (Lui rt imm) pc regs way is keeps same = cc
+decided-goes image (Load op rt base offset) pc regs way is keeps same = cc
+decided-goes image (Store op rt base offset) pc regs way is keeps same = cc
+decided-goes image (Stop op code) pc regs way is keeps same = cc
+
+linked-zero : (links : Bool) (pc : ℕ) (regs : Regs) → IsZero regs → IsZero (linked links pc regs)
+linked-zero true pc regs is = with_reg-zero regs 31 (link_address pc) is
+linked-zero false pc regs is = is
 
 some-zero : (regs : Regs) (next : ℕ) (link : Linking) (way : Decided) → IsZero regs →
     Some (record { next = next; regs = regs; link = link }) ≡ Some way → IsZero way.regs
