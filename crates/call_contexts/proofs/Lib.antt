@@ -6,6 +6,14 @@ pub mod WayCounts
 pub mod LaidOut
 pub mod ContextOrder
 pub mod LaidProgram
+-- Loop instances and scopes.
+mod Nodes
+mod AroundLaws
+mod AroundLists
+mod ScopeLists
+mod BodySearch
+mod Growing
+mod Parts
 -- Sizes and layout of the contexts.
 pub mod Bisection
 pub mod Places
@@ -20,6 +28,12 @@ pub mod ArcCounts
 pub mod PlaceAccesses
 pub mod HasItsPlaces
 pub mod HasItsArcs
+mod InstanceLists
+mod RoundLists
+mod CallScopes
+mod NetGround
+mod HeldUnits
+mod InstanceNet
 -- The net is nested.
 pub mod NetItems
 pub mod Numerals

@@ -6,3 +6,6 @@ pub mod Layout
 pub mod Spots
 pub mod Arcs
 pub mod Accesses
+-- Loop instances and scopes.
+pub mod Around
+pub mod Instances

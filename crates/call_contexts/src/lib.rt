@@ -3,11 +3,14 @@
 
 mod accesses;
 mod arcs;
+mod around;
 mod fault;
 mod index;
+mod instances;
 mod layout;
 mod program;
 mod spots;
+mod scopes;
 
 pub use fault::NetFault;
 pub use program::expand;
