@@ -4,3 +4,6 @@ pub mod Items
 pub mod Bisection
 pub mod Places
 pub mod Numbering
+pub mod Telling
+pub mod GraphPlaces
+pub mod Calling

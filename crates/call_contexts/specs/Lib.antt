@@ -1,4 +1,5 @@
 -- What the net of a program says of it.
 pub mod Sizes
 pub mod Programs
+pub mod Counting
 pub mod Layout

@@ -1,10 +1,12 @@
 //! The net of a program: its functions in their contexts.
 #![tactic(auto)]
 
+mod calls;
 mod fault;
 mod index;
 mod layout;
 mod program;
+mod sizes;
 
 pub use fault::NetFault;
 pub use program::expand;
