@@ -7,3 +7,5 @@ pub mod Numbering
 pub mod Telling
 pub mod GraphPlaces
 pub mod Calling
+pub mod Finishing
+pub mod Totals

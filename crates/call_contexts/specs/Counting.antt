@@ -1,8 +1,9 @@
 -- How the contexts and places of a program are counted: each function's from those of the functions that it calls.
-use Rattle.std.specs.Prelude.{◌≡◌, ℕ, ◌<◌, ◌+◌, ◌^◌, ◌∷◌, List, length, map, min, sum_by, All, AllPairs, Contains, Some, slice_get, slice_index_or}
+use Rattle.std.specs.Prelude.{◌≡◌, ℕ, ◌<◌, ◌+◌, ◌^◌, ◌∷◌, List, length, map, min, replicate, sum_by, All, AllPairs, Contains, Some, slice_get, slice_index_or}
 use Rattle.std.specs.List.{AllZip, flat_map}
 use Rattle.elf_mips.specs.declared.image.Image.{Image}
 use Rattle.mips_decode.specs.Transfer.{Call}
+use Rattle.step_table.specs.Cycles.{IsCyclic}
 use Rattle.step_table.specs.Table.{IsStep}
 use Rattle.unit_graph.specs.declared.graph.Graph.{Graph}
 use Rattle.unit_graph.specs.declared.node.Unit.{Unit as Node}
@@ -77,6 +78,23 @@ told_of number = min number (2 ^ 63)
 abbrev pub AreToldAll : (table : List (List ℕ)) (own told : List ℕ) → Type 0
 AreToldAll table own told = (total : ℕ → ℕ) → AddsAlong table own total → (position : ℕ) → position < length table →
     slice_get told position ≡ Some (told_of (total position))
+
+-- For each graph the number of its units, and for each list of calls a one.
+abbrev pub unit_counts : List Graph → List ℕ
+unit_counts graphs = map (λ (graph : Graph). length graph.units) graphs
+
+abbrev pub ones_for : List (List Called) → List ℕ
+ones_for lists = replicate (length lists) 1
+
+-- No steps lead from a position back to it.
+abbrev pub IsAcyclic : List (List ℕ) → Type 0
+IsAcyclic table = (position : ℕ) → IsCyclic table position → ⊥
+
+-- The number of the first position.
+pub record IsTotalOfFirst (table : List (List ℕ)) (own : List ℕ) (number : ℕ) : Type 0 where
+  pub total : ℕ → ℕ
+  pub adds : AddsAlong table own total
+  pub same : number ≡ total 0
 
 -- The number of the first position is told.
 pub record IsToldFirst (table : List (List ℕ)) (own : List ℕ) (told : ℕ) : Type 0 where

@@ -2,4 +2,5 @@
 pub mod Sizes
 pub mod Programs
 pub mod Counting
+pub mod Expansion
 pub mod Layout

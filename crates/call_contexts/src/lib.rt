@@ -2,6 +2,7 @@
 #![tactic(auto)]
 
 mod calls;
+mod contexts;
 mod fault;
 mod index;
 mod layout;

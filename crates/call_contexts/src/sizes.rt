@@ -3,10 +3,12 @@
 ghost use Rattle.std.specs.Prelude.{◌≡◌, ◌<◌, ◌+◌, ◌^◌, min, All, IfOk, OnOk, length, sum_by};
 ghost use Rattle.step_table.specs.Numbers.{number_of};
 ghost use Rattle.step_table.specs.Table.{IsWithin};
-ghost use Rattle.call_contexts.specs.Counting.{AreToldAll, IsFinished, told_of};
+ghost use Rattle.call_contexts.specs.Counting.{AreToldAll, IsAcyclic, IsFinished, IsToldFirst, ones_for, steps_in, steps_of, told_of, unit_counts};
 
+use crate::calls::Called;
 use std::alloc::{AllocError, Global};
-use step_table::steps_at;
+use step_table::{order_of, steps_at};
+use unit_graph::Graph;
 use wcet_io::List;
 
 /// The sum of two numbers, or 2^63 where it is more.
@@ -47,4 +49,75 @@ fn totals_told(
         told[*position] = total_told(own[*position], &told, steps_at(table, *position));
     }
     Ok(told)
+}
+
+/// The positions of a table, each behind those to which its steps go.
+fn steps_first(alloc: Global, table: &[List<usize>]) -> Result<Vec<usize>, AllocError>
+    requires within { IsWithin table.now }
+    requires acyclic { IsAcyclic table.now }
+    ensures { IfOk result (λ order. IsFinished table.now order.items) }
+{
+    order_of(alloc, table)
+}
+
+/// The positions of the graphs to which calls go.
+fn steps_in(alloc: Global, calls: &[Called]) -> Result<List<usize>, AllocError>
+    ensures { IfOk result (λ steps. steps ≡ steps_in calls.now) }
+{
+    let steps = calls.iter().map(|called| called.graph).collect(alloc)?;
+    Ok(List::from_vec(steps))
+}
+
+/// For each list of calls the positions to which they go.
+fn steps_of(alloc: Global, lists: &[List<Called>]) -> Result<Vec<List<usize>>, AllocError>
+    ensures { IfOk result (λ table. table.items ≡ steps_of lists.now) }
+{
+    let mut table = Vec::new(alloc);
+    for calls in lists {
+        table.push(steps_in(alloc, calls.as_slice())?)?;
+    }
+    Ok(table)
+}
+
+/// How many units each graph has.
+pub fn unit_counts(alloc: Global, graphs: &[Graph]) -> Result<Vec<u64>, AllocError>
+    ensures { IfOk result (λ counts. counts.items ≡ unit_counts graphs.now) }
+{
+    graphs
+        .iter()
+        .map(|graph| graph.units.as_slice().len() as u64)
+        .collect(alloc)
+}
+
+/// How many contexts and places there are, each told as at most 2^63.
+#[derive(Clone, Copy, Debug)]
+pub struct Sizes {
+    pub contexts: u64,
+    pub places: u64,
+}
+
+/// How many contexts and places the first graph makes, from the units of the graphs and their calls.
+///
+/// The functions are counted one after the other, each behind those that it calls.
+pub fn sizes_told(
+    alloc: Global,
+    units: &[u64],
+    lists: &[List<Called>],
+) -> Result<Sizes, AllocError>
+    requires some { 0 < length lists.now }
+    requires count { length units.now ≡ length lists.now }
+    requires within { IsWithin (steps_of lists.now) }
+    requires acyclic { IsAcyclic (steps_of lists.now) }
+    ensures contexts { IfOk result (λ sizes. IsToldFirst (steps_of lists.now) (ones_for lists.now) sizes.contexts) }
+    ensures places { IfOk result (λ sizes. IsToldFirst (steps_of lists.now) units.now sizes.places) }
+{
+    let table = steps_of(alloc, lists)?;
+    let order = steps_first(alloc, &table)?;
+    let ones = vec![in alloc; 1; lists.len()]?;
+    let contexts = totals_told(alloc, &table, &order, &ones)?;
+    let places = totals_told(alloc, &table, &order, units)?;
+    Ok(Sizes {
+        contexts: contexts[0],
+        places: places[0],
+    })
 }
