@@ -9,3 +9,5 @@ pub mod GraphPlaces
 pub mod Calling
 pub mod Finishing
 pub mod Totals
+pub mod Adding
+pub mod Bases

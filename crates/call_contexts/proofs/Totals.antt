@@ -55,10 +55,10 @@ totals_add table own order finished position first steps there self =
     ∙ ap (λ (to : List ℕ). first + sum_by (tally table own (length order)) to) (get_or_from_slice_get table position steps [] there)
 
 -- The first of the told totals.
-pub first_told : (table : List (List ℕ)) (own order told : List ℕ) (value : ℕ) → IsFinished table order → AreToldAll table own told →
-    0 < length table → value ≡ get_or told 0 0 → IsToldFirst table own value
-first_told table own order told value finished are some is = record {
+pub told_first : (table : List (List ℕ)) (own order told : List ℕ) (value : ℕ) → IsFinished table order → AreToldAll table own told →
+    0 < length table → value ≡ get_or told 0 value → IsToldFirst table own value
+told_first table own order told value finished are some is = record {
   total = total_of table own order;
   adds = totals_add table own order finished;
-  same = is ∙ get_or_from_slice_get told 0 (told_of (total_of table own order 0)) 0 (are (total_of table own order) (totals_add table own order finished) 0 some);
+  same = is ∙ get_or_from_slice_get told 0 (told_of (total_of table own order 0)) value (are (total_of table own order) (totals_add table own order finished) 0 some);
 }

@@ -51,6 +51,23 @@ fn totals_told(
     Ok(told)
 }
 
+/// The total of the first position of a table, told as at most 2^63.
+fn first_told(
+    alloc: Global,
+    table: &[List<usize>],
+    order: &[usize],
+    own: &[u64],
+) -> Result<u64, AllocError>
+    requires some { 0 < length table.now }
+    requires within { IsWithin table.now }
+    requires finished { IsFinished table.now order.now }
+    requires count { length own.now ≡ length table.now }
+    ensures { IfOk result (IsToldFirst table.now own.now) }
+{
+    let told = totals_told(alloc, table, order, own)?;
+    Ok(told[0])
+}
+
 /// The positions of a table, each behind those to which its steps go.
 fn steps_first(alloc: Global, table: &[List<usize>]) -> Result<Vec<usize>, AllocError>
     requires within { IsWithin table.now }
@@ -114,10 +131,7 @@ pub fn sizes_told(
     let table = steps_of(alloc, lists)?;
     let order = steps_first(alloc, &table)?;
     let ones = vec![in alloc; 1; lists.len()]?;
-    let contexts = totals_told(alloc, &table, &order, &ones)?;
-    let places = totals_told(alloc, &table, &order, units)?;
-    Ok(Sizes {
-        contexts: contexts[0],
-        places: places[0],
-    })
+    let contexts = first_told(alloc, &table, &order, &ones)?;
+    let places = first_told(alloc, &table, &order, units)?;
+    Ok(Sizes { contexts, places })
 }
