@@ -11,3 +11,5 @@ pub mod Finishing
 pub mod Totals
 pub mod Adding
 pub mod Bases
+pub mod Summing
+pub mod Expanding
