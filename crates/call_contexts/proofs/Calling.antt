@@ -1,7 +1,8 @@
 -- Lists of calls with the positions of the called functions' graphs.
-use Rattle.std.proofs.Common.{◌≡◌, ℕ, ◌+◌, ◌<◌, List, [], ◌∷◌, ◌++◌, length, map, get_or, take, All, refl, sym, ap, subst, ◌∙◌}
+use Rattle.std.proofs.Common.{◌≡◌, ℕ, ◌+◌, ◌<◌, List, [], ◌∷◌, ◌++◌, length, map, get_or, slice_get, take, All, Some, sym, ap, subst, ◌∙◌}
 use Rattle.std.proofs.lemmas.List.{append_assoc, map_more, map_push, take_more}
 use Rattle.std.proofs.lemmas.List.Elements.{All-push}
+use Rattle.std.proofs.lemmas.Option.{get_or_from_slice_get, slice_get_within}
 use Rattle.std.specs.List.{AllZip}
 use Rattle.step_table.proofs.Positions.{zip_push}
 use Rattle.mips_decode.specs.Transfer.{Call}
@@ -45,3 +46,6 @@ zip_next {A} {B} R xs i x inside is ys y later zip one e =
     subst (λ (bs : List B). AllZip R (take (i + 1) xs) bs) (sym e)
     (subst (λ (given : List A). AllZip R given (ys ++ y ∷ [])) (sym (take_more xs i x inside ∙ ap (λ (z : A). take i xs ++ z ∷ []) (sym is)))
     (zip_push R (take i xs) ys x y zip one))
+
+pub at_all : {T : Type 0} (P : T → Type 0) (items : List T) (i : ℕ) (item : T) → All P items → slice_get items i ≡ Some item → P item
+at_all P items i item each there = subst P (get_or_from_slice_get items i item item there) (each i item (slice_get_within items i item there))

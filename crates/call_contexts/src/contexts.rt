@@ -4,7 +4,7 @@ ghost use Rattle.std.specs.Prelude.{◌≡◌, ◌≤◌, ◌<◌, ◌++◌, ℕ
 ghost use Rattle.step_table.specs.Numbers.{number_of};
 ghost use Rattle.step_table.specs.Table.{IsWithin};
 ghost use Rattle.call_contexts.specs.Counting.{IsTotalOfFirst, ones_for, steps_of, steps_in};
-ghost use Rattle.call_contexts.specs.Expansion.{AreBases, AreExpanded, RiseCalls, SumsUp, context_of};
+ghost use Rattle.call_contexts.specs.Expansion.{AreBases, AreExpanded, HasCalls, RiseCalls, SumsUp, context_of};
 ghost use Rattle.call_contexts.specs.Sizes.{most_contexts, most_places};
 ghost use Rattle.call_contexts.specs.declared.calls.Called.{Called};
 
@@ -19,6 +19,19 @@ use wcet_io::List;
 pub struct Expanded {
     pub contexts: IndexSet<Context>,
     pub functions: Vec<usize>,
+}
+
+/// The calls in a context.
+fn calls_made<'a>(
+    lists: &'a [List<Called>],
+    functions: &[usize],
+    context: usize,
+) -> &'a [Called]
+    requires within { All (λ function. function < length lists.now) functions.now }
+    requires there { context < length functions.now }
+    ensures { HasCalls lists.now functions.now context result.now }
+{
+    lists[functions[context]].as_slice()
 }
 
 /// Adds the contexts that the calls in a context make, which are all new.
@@ -69,7 +82,7 @@ pub fn make_contexts(
     })?;
     functions.push(0)?;
     for parent in 0..count {
-        let calls = lists[functions[parent as usize]].as_slice();
+        let calls = calls_made(lists, &functions, parent as usize);
         add_made(parent, calls, &mut contexts, &mut functions)?;
     }
     Ok(Expanded {
