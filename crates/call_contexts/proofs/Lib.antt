@@ -13,3 +13,14 @@ pub mod Adding
 pub mod Bases
 pub mod Summing
 pub mod Expanding
+-- The net is nested.
+pub mod NetItems
+-- A program has one net.
+pub mod Keyed
+pub mod ContextsOnce
+pub mod ScopesOnce
+pub mod NetOnce
+-- A program has one number of contexts and one of places.
+pub mod GraphCalls
+pub mod SizesOnce
+pub mod SameSizes
