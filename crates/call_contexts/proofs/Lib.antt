@@ -1,11 +1,33 @@
 -- Laws of the net of a program.
 pub mod Items
--- How many arcs a net has.
-pub mod WayCounts
--- Places and arcs of a layout.
+-- Sizes and layout of the contexts.
+pub mod Bisection
+pub mod Places
+pub mod Numbering
+pub mod Telling
+pub mod GraphPlaces
+pub mod Calling
+pub mod Finishing
+pub mod Totals
+pub mod Adding
+pub mod Bases
+pub mod Summing
+pub mod Expanding
+-- Places, arcs and accesses of a layout.
 pub mod LaidOut
 pub mod ContextOrder
 pub mod LaidProgram
+pub mod Laying
+pub mod Zips
+pub mod Quiet
+pub mod Appending
+pub mod Targets
+pub mod Leading
+pub mod WayCounts
+pub mod ArcCounts
+pub mod PlaceAccesses
+pub mod HasItsPlaces
+pub mod HasItsArcs
 -- Loop instances and scopes.
 mod Nodes
 mod AroundLaws
@@ -14,20 +36,6 @@ mod ScopeLists
 mod BodySearch
 mod Growing
 mod Parts
--- Sizes and layout of the contexts.
-pub mod Bisection
-pub mod Places
-pub mod Numbering
-pub mod Adding
-pub mod Zips
-pub mod Quiet
-pub mod Targets
-pub mod Laying
-pub mod Leading
-pub mod ArcCounts
-pub mod PlaceAccesses
-pub mod HasItsPlaces
-pub mod HasItsArcs
 mod InstanceLists
 mod RoundLists
 mod CallScopes

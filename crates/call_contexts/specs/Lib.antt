@@ -1,6 +1,8 @@
 -- What the net of a program says of it.
 pub mod Sizes
 pub mod Programs
+pub mod Counting
+pub mod Expansion
 pub mod Layout
 -- Places and arcs.
 pub mod Spots

@@ -4,6 +4,8 @@
 mod accesses;
 mod arcs;
 mod around;
+mod calls;
+mod contexts;
 mod fault;
 mod index;
 mod instances;
@@ -11,6 +13,7 @@ mod layout;
 mod program;
 mod spots;
 mod scopes;
+mod sizes;
 
 pub use fault::NetFault;
 pub use program::expand;

@@ -2,7 +2,7 @@
 use Rattle.std.proofs.Common.{◌≡◌, ◌<◌, ℕ, List, length, get_or, sym, ap, subst, arith}
 use Rattle.std.proofs.lemmas.List.Elements.{All-get_or}
 use Rattle.call_contexts.specs.Arcs.{HasCallTo, IsCallTo}
-use Rattle.call_contexts.proofs.Adding.{added-more}
+use Rattle.call_contexts.proofs.Appending.{added-more}
 use Rattle.call_contexts.proofs.arcs.add_calls.Goals as goal
 
 pub call_to-requires-clause-there : goal.call_to-requires-clause-there

@@ -2,7 +2,7 @@
 use Rattle.std.proofs.Common.{◌≡◌, ◌<◌, ℕ, List, length, get_or, sym, ap, subst, arith}
 use Rattle.std.proofs.lemmas.List.Elements.{All-get_or}
 use Rattle.call_contexts.specs.Spots.{HasNumber, IsNumberAt}
-use Rattle.call_contexts.proofs.Adding.{added-more}
+use Rattle.call_contexts.proofs.Appending.{added-more}
 use Rattle.call_contexts.proofs.arcs.add_ways.Goals as goal
 
 pub number_at-requires-clause-there : goal.number_at-requires-clause-there
