@@ -26,7 +26,7 @@ use Rattle.call_contexts.specs.Layout.{HasGraph, HasNode, IsLaidOut, IsMadeAs, I
 use Rattle.call_contexts.specs.Spots.{HasNumber, IsLaidProgram, IsNumberAt}
 use Rattle.call_contexts.specs.declared.layout.Layout.{Layout}
 use Rattle.call_contexts.proofs.LaidOut.{base-at, graph-once, one-at, spot-inner}
-use Rattle.call_contexts.proofs.Places.{contains_at, map_at}
+use Rattle.call_contexts.proofs.Places.{map_at}
 
 pub all-at : {T : Type 0} (P : T → Type 0) (items : List T) (k : ℕ) (item : T) → All P items → slice_get items k ≡ Some item → P item
 all-at P items k item each there =
@@ -216,6 +216,9 @@ pub units-rise : (image : Image) (entry : ℕ) (graphs : Graphs) (layout : Layou
 units-rise image entry graphs layout context graph units laid has same =
     subst (AllPairs (λ (a b : Node). a.address < b.address)) (sym same) (graph-is image entry graphs layout context graph laid has).rising
 
+contained-at : (xs : List ℕ) (k x : ℕ) → slice_get xs k ≡ Some x → Contains xs x
+contained-at xs k x there = (k, slice_get_within xs k x there, get_or_from_slice_get xs k x x there)
+
 pub address-among : (graphs : List Graph) (layout : Layout) (context address number : ℕ) (graph : Graph) (units : List Node) →
     HasGraph graphs layout context graph → units ≡ graph.units → IsNumberAt graphs layout context address number →
     Contains (map (λ (node : Node). node.address) units) address
@@ -224,7 +227,7 @@ address-among graphs layout context address number graph units has same is =
     let there : slice_get units is.position ≡ Some is.node =
     subst (λ (nodes : List Node). slice_get nodes is.position ≡ Some is.node) (sym same)
     (subst (λ (g : Graph). slice_get g.units is.position ≡ Some is.node) graph_same is.spot.there) in
-    contains_at (map (λ (node : Node). node.address) units) is.position address
+    contained-at (map (λ (node : Node). node.address) units) is.position address
     (map_at (λ (node : Node). node.address) units is.position is.node there ∙ ap (λ (a : ℕ). Some a) is.same)
 
 -- What bisection finds is the place of the address.

@@ -28,6 +28,7 @@ pub mod ArcCounts
 pub mod PlaceAccesses
 pub mod HasItsPlaces
 pub mod HasItsArcs
+pub mod WholeNet
 -- Loop instances and scopes.
 mod Nodes
 mod AroundLaws
