@@ -19,7 +19,7 @@ use Rattle.call_contexts.specs.Layout.{HasGraph, IsLaidOut, IsMadeAs, IsSpot}
 use Rattle.call_contexts.specs.Spots.{IsLaidProgram, IsNumberAt}
 use Rattle.call_contexts.specs.declared.layout.Layout.{Layout}
 use Rattle.call_contexts.proofs.ContextOrder.{context-lower, made-rises}
-use Rattle.call_contexts.proofs.LaidOut.{IsLower, graph-once, one-at, spot-before}
+use Rattle.call_contexts.proofs.SpotNumbers.{IsLower, graph-once, one-at, spot-before}
 use Rattle.call_contexts.proofs.LaidProgram.{calls-there, graph-is, node-is}
 use Rattle.call_contexts.proofs.WayCounts.{weight, weights-few}
 use Rattle.call_contexts.proofs.Zips.{pairs-append, pairs-nil, zip-length, zip-pairs, zip-sound}

@@ -6,7 +6,7 @@ use Rattle.elf_mips.specs.declared.image.Image.{Image}
 use Rattle.flow_net.specs.declared.net.Context.{Context}
 use Rattle.net_model.specs.Contexts.{AreContexts, IsCallBefore, IsContextBefore, made_by}
 use Rattle.call_contexts.specs.Layout.{IsMadeAs}
-use Rattle.call_contexts.proofs.LaidOut.{one-at}
+use Rattle.call_contexts.proofs.SpotNumbers.{one-at}
 
 call-strict : (a b : Context) → IsCallBefore a b → IsCallBefore b a → ⊥
 call-strict a b (inl less) (inl more) = omega (arith, less, more)

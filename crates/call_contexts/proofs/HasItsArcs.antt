@@ -25,7 +25,7 @@ use Rattle.call_contexts.specs.Layout.{IsMadeAs, IsSpot}
 use Rattle.call_contexts.specs.Spots.{IsLaidProgram, IsNumberAt}
 use Rattle.call_contexts.specs.declared.layout.Layout.{Layout}
 use Rattle.call_contexts.proofs.HasItsPlaces.{IsNetOf, number-place, place-number}
-use Rattle.call_contexts.proofs.LaidOut.{one-at}
+use Rattle.call_contexts.proofs.SpotNumbers.{one-at}
 use Rattle.call_contexts.proofs.LaidProgram.{all-at, node-is}
 use Rattle.call_contexts.proofs.Laying.{spot-below}
 use Rattle.call_contexts.proofs.Quiet.{called-passes}

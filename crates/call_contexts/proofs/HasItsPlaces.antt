@@ -16,7 +16,7 @@ use Rattle.call_contexts.specs.Layout.{IsLaid, IsPlaced, IsSpot}
 use Rattle.call_contexts.specs.Spots.{HasNumber, IsLaidProgram, IsNumberAt}
 use Rattle.call_contexts.specs.declared.layout.Layout.{Layout}
 use Rattle.call_contexts.proofs.ArcCounts.{position-address}
-use Rattle.call_contexts.proofs.LaidOut.{IsLower, spot-before}
+use Rattle.call_contexts.proofs.SpotNumbers.{IsLower, spot-before}
 use Rattle.call_contexts.proofs.LaidProgram.{node-is, number-there}
 
 -- A net with the contexts and the places of a layout.

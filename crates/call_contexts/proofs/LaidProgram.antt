@@ -25,7 +25,7 @@ use Rattle.call_contexts.specs.Arcs.{ComesBack, HasCallTo, HasReturnTo, IsCallTo
 use Rattle.call_contexts.specs.Layout.{HasGraph, HasNode, IsLaidOut, IsMadeAs, IsSpot}
 use Rattle.call_contexts.specs.Spots.{HasNumber, IsLaidProgram, IsNumberAt}
 use Rattle.call_contexts.specs.declared.layout.Layout.{Layout}
-use Rattle.call_contexts.proofs.LaidOut.{base-at, graph-once, one-at, spot-inner}
+use Rattle.call_contexts.proofs.SpotNumbers.{base-at, graph-once, one-at, spot-inner}
 use Rattle.call_contexts.proofs.Places.{map_at}
 
 pub all-at : {T : Type 0} (P : T → Type 0) (items : List T) (k : ℕ) (item : T) → All P items → slice_get items k ≡ Some item → P item

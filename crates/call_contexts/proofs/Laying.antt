@@ -9,7 +9,7 @@ use Rattle.unit_graph.specs.declared.graph.Graph.{Graph}
 use Rattle.unit_graph.specs.declared.node.Unit.{Unit as Node}
 use Rattle.call_contexts.specs.Layout.{HasGraph, HasPlace, IsLaid, IsLaidOut, IsPlaced, IsSpot}
 use Rattle.call_contexts.specs.declared.layout.Layout.{Layout}
-use Rattle.call_contexts.proofs.LaidOut.{base-above, graph-within, one-at, some-at, spot-context, spot-inside, spot-once, spot-positive}
+use Rattle.call_contexts.proofs.SpotNumbers.{base-above, graph-within, one-at, some-at, spot-context, spot-inside, spot-once, spot-positive}
 
 -- The places of the numbers below a limit.
 pub record ArePlaces (graphs : List Graph) (layout : Layout) (limit : ℕ) (places : List Place) : Type 0 where

@@ -12,7 +12,7 @@ use Rattle.unit_graph.specs.declared.node.Unit.{Unit as Node}
 use Rattle.call_contexts.specs.Arcs.{AreArcs, AreTargets, AreWays, IsFirstPlace, IsWay, Leads, arc_to, arcs_from}
 use Rattle.call_contexts.specs.Layout.{IsLaidOut, IsSpot}
 use Rattle.call_contexts.specs.declared.layout.Layout.{Layout}
-use Rattle.call_contexts.proofs.LaidOut.{spot-context, spot-once, spot-positive}
+use Rattle.call_contexts.proofs.SpotNumbers.{spot-context, spot-once, spot-positive}
 use Rattle.call_contexts.proofs.Zips.{pairs-append, pairs-nil}
 
 pub pairs-map : {S T : Type 0} (R : T → T → Type 0) (f : S → T) (xs : List S) → AllPairs (λ a b. R (f a) (f b)) xs →

@@ -14,7 +14,7 @@ pub mod Bases
 pub mod Summing
 pub mod Expanding
 -- Places, arcs and accesses of a layout.
-pub mod LaidOut
+pub mod SpotNumbers
 pub mod ContextOrder
 pub mod LaidProgram
 pub mod Laying

@@ -18,7 +18,7 @@ use Rattle.call_contexts.specs.Accesses.{node_accesses}
 use Rattle.call_contexts.specs.Layout.{IsLaid, IsPlaced, IsSpot}
 use Rattle.call_contexts.specs.Spots.{IsLaidProgram}
 use Rattle.call_contexts.specs.declared.layout.Layout.{Layout}
-use Rattle.call_contexts.proofs.LaidOut.{spot-once}
+use Rattle.call_contexts.proofs.SpotNumbers.{spot-once}
 use Rattle.call_contexts.proofs.LaidProgram.{node-is, unit-low}
 
 -- The accesses of a node are those of its unit.

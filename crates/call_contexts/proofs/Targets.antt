@@ -21,7 +21,7 @@ use Rattle.call_contexts.specs.Layout.{IsMadeAs, IsSpot}
 use Rattle.call_contexts.specs.Spots.{IsLaidProgram, IsNumberAt}
 use Rattle.call_contexts.specs.declared.layout.Layout.{Layout}
 use Rattle.call_contexts.proofs.ContextOrder.{made-once, made-rises}
-use Rattle.call_contexts.proofs.LaidOut.{inside-below, one-at, spot-inside, spot-positive}
+use Rattle.call_contexts.proofs.SpotNumbers.{inside-below, one-at, spot-inside, spot-positive}
 use Rattle.call_contexts.proofs.LaidProgram.{node-is, number-once, number-rises}
 use Rattle.call_contexts.proofs.Quiet.{returns-quiet}
 use Rattle.call_contexts.proofs.WayCounts.{same-unit}

@@ -6,7 +6,7 @@ use Rattle.elf_mips.specs.declared.image.Image.{Image}
 use Rattle.flow_net.specs.declared.net.Place.{Place}
 use Rattle.net_model.specs.Accesses.{accesses_from}
 use Rattle.call_contexts.specs.Layout.{IsSpot}
-use Rattle.call_contexts.proofs.LaidOut.{spot-few}
+use Rattle.call_contexts.proofs.SpotNumbers.{spot-few}
 use Rattle.call_contexts.proofs.LaidProgram.{node-is, unit-low}
 use Rattle.call_contexts.proofs.PlaceAccesses.{accesses-next, placed-at}
 use Rattle.call_contexts.proofs.accesses.accesses_of.Goals as goal

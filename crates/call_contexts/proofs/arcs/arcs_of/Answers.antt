@@ -5,7 +5,7 @@ use Rattle.flow_net.specs.declared.net.NetArc.{NetArc}
 use Rattle.unit_graph.specs.declared.node.Unit.{Unit as Node}
 use Rattle.call_contexts.specs.Arcs.{AreArcs, AreTargets, arc_to, arcs_from}
 use Rattle.call_contexts.proofs.ArcCounts.{AreCounted, counted-all, counted-more, counted-none, counted-room, room-full, room-more}
-use Rattle.call_contexts.proofs.LaidOut.{base-read, one-at, units-few}
+use Rattle.call_contexts.proofs.SpotNumbers.{base-read, one-at, units-few}
 use Rattle.call_contexts.proofs.Laying.{unit-spot}
 use Rattle.call_contexts.proofs.Leading.{arcs-more, arcs-none}
 use Rattle.call_contexts.proofs.WayCounts.{weight}

@@ -4,7 +4,7 @@ use Rattle.std.proofs.lemmas.Option.{slice_get_within}
 use Rattle.unit_graph.specs.declared.node.Unit.{Unit as Node}
 use Rattle.call_contexts.specs.Layout.{HasGraph}
 use Rattle.call_contexts.specs.Spots.{IsNumberAt}
-use Rattle.call_contexts.proofs.LaidOut.{base-read, units-few}
+use Rattle.call_contexts.proofs.SpotNumbers.{base-read, units-few}
 use Rattle.call_contexts.proofs.LaidProgram.{address-among, number-found, units-rise}
 use Rattle.call_contexts.proofs.spots.number_at.Goals as goal
 

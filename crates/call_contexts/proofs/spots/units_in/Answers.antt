@@ -2,7 +2,7 @@
 use Rattle.std.proofs.Common.{◌≡◌, ◌<◌, ℕ, List, length, get_or, ap, ◌∙◌, arith}
 use Rattle.std.proofs.lemmas.Option.{get_or_from_slice_get, slice_get_within}
 use Rattle.unit_graph.specs.declared.graph.Graph.{Graph}
-use Rattle.call_contexts.proofs.LaidOut.{position-read, position-within}
+use Rattle.call_contexts.proofs.SpotNumbers.{position-read, position-within}
 use Rattle.call_contexts.proofs.spots.units_in.Goals as goal
 
 pub returns : goal.returns
