@@ -15,7 +15,7 @@ AreAdded R items old new = (numbers : List ℕ) × (new ≡ old ++ numbers) × A
 pub added-more : (R : ℕ → ℕ → Type 0) (xs old before after : List ℕ) (i y : ℕ) → AreAdded R (take i xs) old before →
     after ≡ before ++ y ∷ [] → i < length xs → R (get_or xs i 0) y → AreAdded R (take (i + 1) xs) old after
 added-more R xs old before after i y (numbers, is, each) more inside here = (
-      numbers ++ y ∷ [],
-      more ∙ ap (λ (ns : List ℕ). ns ++ y ∷ []) is ∙ append_assoc old numbers (y ∷ []),
-      all_zip_more R xs numbers i (get_or xs i 0) y inside (read-any xs i inside) each here,
-    )
+  numbers ++ y ∷ [],
+  more ∙ ap (λ (ns : List ℕ). ns ++ y ∷ []) is ∙ append_assoc old numbers (y ∷ []),
+  all_zip_more R xs numbers i (get_or xs i 0) y inside (read-any xs i inside) each here,
+)

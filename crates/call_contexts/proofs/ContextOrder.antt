@@ -55,6 +55,7 @@ made-once image entry contexts are parent site callee n m one other = by_order (
       let before : IsContextBefore (made_by parent site callee) (made_by parent site callee) =
       numbers-ordered contexts are.order i j (made_by parent site callee) (made_by parent site callee) first.later less first.there second.there in
       context-strict (made_by parent site callee) (made_by parent site callee) before before
+
   by_order : ((n < m) ⊎ (m ≤ n)) → ((m < n) ⊎ (n ≤ m)) → n ≡ m
   by_order (inl less) h = absurd (no n m one other less)
   by_order (inr most) (inl above) = absurd (no m n other one above)

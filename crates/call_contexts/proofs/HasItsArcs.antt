@@ -53,10 +53,12 @@ ways-on image function node later is among = by_stay (stays node) refl among whe
       is.described.calls.whole callee (record { unit = is.unit; stands = is.stands; called = there }) in
       let skips : node.skips ≡ true = subst (λ (b : Bool). (b || node.skips) ≡ true) (no-calls node.calls callee listed) kept in
       (called-passes image is.unit node.address callee there).1 (sym is.described.skips ∙ skips)
+
   by_goes : stays node ≡ true → (x : ℕ) → GoesOn image node.address x → Contains (ways_on image is.unit node.address) x
   by_goes kept x (onward _ _ u at way) =
       subst (λ (v : CodeUnit). Contains (ways_on image v node.address) x) (same-unit image node.address is.unit u is.stands at) way
   by_goes kept _ (back _ callee u at way can) = skip u callee at way kept
+
   by_stay : (b : Bool) → stays node ≡ b → Contains (cond b node.onward []) later → Contains (ways_on image is.unit node.address) later
   by_stay true kept there = by_goes kept later (is.described.onward.sound later there)
   by_stay false kept there = absurd (nothing-in later there)
@@ -70,9 +72,11 @@ ways-of image function node later is among =
     or-left : (a b : Bool) → a ≡ true → (a || b) ≡ true
     or-left true b same = refl
     or-left false b same = absurd cc
+
     or-right : (a b : Bool) → b ≡ true → (a || b) ≡ true
     or-right true b same = refl
     or-right false b same = same
+
     by_call : ((is_none node.calls ≡ true) ⊎ ((callee : ℕ) × Contains node.calls callee)) → stays node ≡ true
     by_call (inl none) = or-left (is_none node.calls) node.skips none
     by_call (inr (callee, listed)) =
@@ -100,6 +104,7 @@ leads-to image entry graphs layout net context node function to of is (enters _ 
 leads-to image entry graphs layout net context node function to of is (comes _ leaving at) = by_context at where
   returning : returns is.unit ≡ true
   returning = sym is.described.returns ∙ leaving
+
   by_context : IsReturnTo graphs.graphs layout context to → LeadsTo image net is.unit context node.address to
   by_context (inl first) =
       subst (λ (t : ℕ). LeadsTo image net is.unit context node.address t) (sym first.1) (ends returning first.0)
@@ -182,14 +187,17 @@ has-arcs image entry graphs layout net laid of all = record {
 } where
   arcs : AreArcs graphs.graphs layout all.next net.arcs
   arcs = all.are
+
   begins : arcs.at.of.target ≡ entry
   begins = ap (λ (c : Context). c.target) (one-at layout.contexts.keys 0 arcs.at.of (root entry) arcs.at.there laid.layout_is.contexts.first)
+
   way : (number : ℕ) (a : NetArc) → item_at number (arc_to 0 arcs.first ∷ arcs.rest) ≡ Some a → 1 < number → LeadsOn image net a.from a.to
   way zero a there later = absurd (omega (arith, later))
   way (suc zero) a there later = absurd (omega (arith, later))
   way (suc (suc k)) a there later =
       way-leads image entry graphs layout net a.from a.to laid of
       (all-at (λ (b : NetArc). (b.from < all.next) × IsWay graphs.graphs layout b.from b.to) arcs.rest k a arcs.ways.sound there).1
+
   arc : (from to : ℕ) → LeadsOn image net from to →
       (number : ℕ) × (1 < number) × (item_at number net.arcs ≡ Some (record { from = from; to = to }))
   arc from to leads =

@@ -71,6 +71,7 @@ has-places image entry graphs layout net laid of = record {
       places-order image entry graphs layout (suc i) (suc j) (get_or net.places i d) (get_or net.places j d) laid
       (of.places.each (suc i) (get_or net.places i d) first) (of.places.each (suc j) (get_or net.places j d) second)
       (omega (arith, less))
+
   reached : (number : ℕ) (place : Place) → item_at number net.places ≡ Some place → Reaches image net.contexts place.context place.address
   reached number place there =
       let placed = of.places.each number place there in
@@ -80,6 +81,7 @@ has-places image entry graphs layout net laid of = record {
         there = subst (λ (all : List Context). slice_get all place.context ≡ Some placed.spot.has.of) (sym of.contexts) placed.spot.has.there;
         reached = subst (λ (a : ℕ). IsReached image placed.spot.has.of.target a) (sym placed.same) is.reached;
       }
+
   whole : (context address : ℕ) → Reaches image net.contexts context address → (number : ℕ) × IsPlaceOf net number context address
   whole context address reaches =
       let there = subst (λ (all : List Context). slice_get all context ≡ Some reaches.context) of.contexts reaches.there in

@@ -204,6 +204,7 @@ number-once image entry graphs layout context a n m laid one other =
           let start : (get_or nodes i c).address ≡ c.address = ap (λ (n : Node). n.address) (get_or_from_slice_get nodes i c c here) in
           let end : (get_or nodes j c).address ≡ d.address = ap (λ (n : Node). n.address) (get_or_from_slice_get nodes j d c there) in
           omega (arith, up, start, end, same)
+
       by_order : ((p < q) ⊎ (q ≤ p)) → ((q < p) ⊎ (p ≤ q)) → p ≡ q
       by_order (inl before) h = absurd (no p q a b one other level before)
       by_order (inr most) (inl above) = absurd (no q p b a other one (sym level) above)

@@ -52,8 +52,8 @@ places-more graphs layout limit places place are is = record {
         | inr here ↦ subst (IsPlaced graphs layout (suc k)) here.1
             (subst (λ (n : ℕ). IsPlaced graphs layout n place) (limit-is k here.0) is)
       ] where
-    limit-is : (k : ℕ) → k ≡ length places → limit ≡ suc k
-    limit-is k same = omega (arith, same, are.count)
+        limit-is : (k : ℕ) → k ≡ length places → limit ≡ suc k
+        limit-is k same = omega (arith, same, are.count)
 
 -- The last base is above each number.
 pub spot-below : (graphs : List Graph) (layout : Layout) (context position : ℕ) (node : Node) (number last : ℕ) → IsLaidOut graphs layout →
@@ -80,6 +80,7 @@ places-laid graphs layout last places laid ends are = record {
       absurd (let some : 0 < 0 = spot-positive graphs layout context position node 0 laid spot in omega (arith, some))
   found context position (suc k) node spot =
       some-at places k (omega (arith, are.count, spot-below graphs layout context position node (suc k) last laid spot ends))
+
   whole : (context position number : ℕ) (node : Node) → IsSpot graphs layout context position node number →
       HasPlace places number context node.address
   whole context position number node spot =

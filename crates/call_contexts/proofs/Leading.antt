@@ -72,6 +72,7 @@ ways-more graphs layout context position node number targets arcs laid spot are 
       let same = spot-once graphs layout way.context way.position context position way.node node number laid way.spot spot in
       are.whole to (subst (λ (n : Node). Leads graphs layout context n to) same
       (subst (λ (k : ℕ). Leads graphs layout k way.node to) place way.leads))
+
   at : (from to : ℕ) → IsWay graphs layout from to → ((from < number) ⊎ (number ≤ from)) → from < suc number →
       Contains (arcs ++ arcs_from number targets) (arc_to from to)
   at from to way (inl before) below =

@@ -63,6 +63,7 @@ base-above graphs layout context base graph later after laid has begins less the
   steps context zero less = absurd (omega (arith, less))
   steps zero (suc later) less = (later, omega arith)
   steps (suc context) (suc later) less = let rest = steps context later (omega (arith, less)) in (rest.0, omega (arith, rest.1))
+
   by_step : (k : ℕ) × (suc (k + context) ≡ later) → base + length graph.units ≤ after
   by_step step = base-later graphs layout context base graph step.0 later after laid has begins step.1 there
 
@@ -113,6 +114,7 @@ spot-before graphs layout c p d q node other n m laid one another less = by_orde
   same e =
       let parts = spot-inner graphs layout d p q node other n m (subst (λ (k : ℕ). IsSpot graphs layout k p node n) e one) another in
       inr (e, omega (arith, less, parts.1, parts.2))
+
   by_order : ((c < d) ⊎ (d ≤ c)) → IsLower c p d q
   by_order (inl lower) = inl lower
   by_order (inr most) =
@@ -136,8 +138,10 @@ pub spot-context : (graphs : List Graph) (layout : Layout) (c p d q : ℕ) (node
 spot-context graphs layout c p d q node other n laid one another = by_order (cases_lt c d) (cases_lt d c) where
   first : IsInside graphs layout c n
   first = spot-inside graphs layout c p node n one
+
   second : IsInside graphs layout d n
   second = spot-inside graphs layout d q other n another
+
   by_order : ((c < d) ⊎ (d ≤ c)) → ((d < c) ⊎ (c ≤ d)) → c ≡ d
   by_order (inl lower) h = absurd (let no : n < n = inside-below graphs layout c n d n laid first second lower in omega (arith, no))
   by_order (inr most) (inl above) = absurd (let no : n < n = inside-below graphs layout d n c n laid second first above in omega (arith, no))

@@ -88,6 +88,7 @@ targets-return image entry graphs layout context position node number to laid sp
 } where
   quiet : IsQuiet node
   quiet = node-quiet image spot.has.of.target node (node-is image entry graphs layout context position node number laid spot) leaving
+
   whole : (other : ℕ) → Leads graphs.graphs layout context node other → Contains (to ∷ []) other
   whole other (goes _ later among at) = absurd (quiet.onward later (kept-onward node later (stays node) among))
   whole other (enters _ callee among at) = absurd (quiet.calls callee among)
@@ -166,6 +167,7 @@ targets-go image entry graphs layout context position node number ways calls lai
 } where
   is : IsNode image spot.has.of.target node
   is = node-is image entry graphs layout context position node number laid spot
+
   whole : (to : ℕ) → Leads graphs.graphs layout context node to → Contains (ways ++ calls) to
   whole to (goes _ later among at) =
       let (n, there, one) = zip-whole (IsNumberAt graphs.graphs layout context) (ways_of node) ways later goes_to among in

@@ -129,11 +129,7 @@ fn first_place(graphs: &Graphs, layout: &Layout) -> u32
 }
 
 /// The arcs of a net: the one from 0 to the place of the entry, then those from each place.
-pub fn arcs_of(
-    alloc: Global,
-    graphs: &Graphs,
-    layout: &Layout,
-) -> Result<Vec<NetArc>, AllocError>
+pub fn arcs_of(alloc: Global, graphs: &Graphs, layout: &Layout) -> Result<Vec<NetArc>, AllocError>
     requires program { IsOfProgram graphs.now layout.now }
     ensures arcs { IfOk result (λ arcs. AreAllArcs graphs.now.graphs layout.now arcs.items) }
     ensures few { IfOk result (λ arcs. length arcs.items ≤ 2 ^ 25) }

@@ -11,9 +11,11 @@ mod index;
 mod instances;
 mod layout;
 mod program;
-mod spots;
 mod scopes;
 mod sizes;
+mod spots;
+#[cfg(test)]
+mod tests;
 
 pub use fault::NetFault;
 pub use program::expand;

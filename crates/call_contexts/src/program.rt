@@ -9,6 +9,9 @@ ghost use Rattle.mips_decode.specs.State.{State};
 ghost use Rattle.net_model.specs.Functions.{CanReturn};
 ghost use Rattle.net_model.specs.Net.{IsNet};
 ghost use Rattle.net_model.specs.Runs.{GoesAlong, IsKeptRun};
+ghost use Rattle.call_contexts.specs.Instances.{HasLayout};
+ghost use Rattle.call_contexts.specs.Programs.{HasUnits, IsProgram, TellsFault};
+ghost use Rattle.call_contexts.specs.Sizes.{AreSizes, most_contexts, most_places};
 
 use crate::accesses::accesses_of;
 use crate::arcs::arcs_of;
@@ -22,10 +25,6 @@ use std::alloc::{AllocError, Global};
 use unit_graph::Graphs;
 use wcet_io::List;
 
-ghost use Rattle.call_contexts.specs.Instances.{HasLayout};
-ghost use Rattle.call_contexts.specs.Programs.{HasUnits, IsProgram, TellsFault};
-ghost use Rattle.call_contexts.specs.Sizes.{AreSizes, most_contexts, most_places};
-
 /// The contexts as a list.
 fn listed(alloc: Global, contexts: &[Context]) -> Result<List<Context>, AllocError>
     ensures { IfOk result (λ (list : List Context). list ≡ contexts.now) }
@@ -38,12 +37,7 @@ fn listed(alloc: Global, contexts: &[Context]) -> Result<List<Context>, AllocErr
 }
 
 /// The net of a program whose contexts are laid out.
-fn net_of(
-    alloc: Global,
-    graphs: &Graphs,
-    nests: &Nests,
-    layout: &Layout,
-) -> Result<Net, AllocError>
+fn net_of(alloc: Global, graphs: &Graphs, nests: &Nests, layout: &Layout) -> Result<Net, AllocError>
     requires { (image : Image) × (entry : ℕ) × HasLayout image entry graphs.now nests.now layout.now }
     ensures net { IfOk result (λ net. (image : Image) (entry : ℕ) → HasLayout image entry graphs.now nests.now layout.now →
         IsNet image entry net) }

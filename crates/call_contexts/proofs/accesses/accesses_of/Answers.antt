@@ -58,8 +58,8 @@ loop-index-preserved c = λ image entry laid.
     let place = get_or c.args.places.now c.loop-index.index (record { context = 0; address = 0; scope = 0 }) in
     let there = slice_get-get_or c.args.places.now c.loop-index.index (record { context = 0; address = 0; scope = 0 }) c.loop-index-test.true in
     accesses-next image entry c.args.graphs.now c.args.layout.now c.args.places.now c.loop-index.index place c.unit_at-unit.result.now position
-        c.loop-index.accesses.items c.add_accesses.new.accesses.items laid c.requires.places there spot
-        (c.loop-index.invariant image entry laid) c.in_ok-add_accesses.ensures
+    c.loop-index.accesses.items c.add_accesses.new.accesses.items laid c.requires.places there spot
+    (c.loop-index.invariant image entry laid) c.in_ok-add_accesses.ensures
 
 pub returns : goal.returns
 returns c = λ image entry laid.

@@ -130,4 +130,4 @@ returns-clause-few c =
     let all : c.loop-context.context ≡ length c.args.layout.now.contexts.keys =
     omega (arith, c.loop-context-test.false, c.len-context-end.ensures, laid.layout_is.laid.functions) in
     counted-all c.args.graphs.now.graphs c.args.layout.now base c.loop-context.arcs.items laid.layout_is.laid
-        (subst (λ (n : ℕ). slice_get c.args.layout.now.bases.items n ≡ Some base) all begins) counted
+    (subst (λ (n : ℕ). slice_get c.args.layout.now.bases.items n ≡ Some base) all begins) counted

@@ -19,7 +19,7 @@ layout_of-requires c =
 pub returns-in_err-layout-clause-bad : goal.returns-in_err-layout-clause-bad
 returns-in_err-layout-clause-bad c =
     let known : (image : Image) (entry : ℕ) → IsProgram image entry c.args.graphs.now c.args.nests.now →
-        TellsFault image entry c.in_err-layout.field-0.0 =
+    TellsFault image entry c.in_err-layout.field-0.0 =
     λ image entry program. c.in_err-layout.ensures.bad image entry
     (program-graphs image entry c.args.graphs.now c.args.nests.now program) in
     search rules
@@ -82,7 +82,7 @@ returns-clause-sizes c = λ image entry program.
     ap (λ (all : List Context). length all) (sym c.in_ok-net.ensures.contexts) in
     let places : suc (length c.in_ok-net.net.places) - 1 ≡ length c.in_ok-net.net.places = omega arith in
     subst (λ (n : ℕ). AreSizes image entry n (length c.in_ok-net.net.places)) contexts
-        (subst (λ (n : ℕ). AreSizes image entry (length c.in_ok-layout.layout.contexts.keys) n) places sizes)
+    (subst (λ (n : ℕ). AreSizes image entry (length c.in_ok-layout.layout.contexts.keys) n) places sizes)
 
 pub returns-clause-paths : goal.returns-clause-paths
 returns-clause-paths c = λ image entry program s states run.

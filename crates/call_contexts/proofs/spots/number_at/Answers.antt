@@ -50,4 +50,4 @@ returns c =
     let (graph, has, same) = c.units_in-units.ensures in
     let begins = base-read c.args.graphs.now.graphs c.args.layout.now c.args.context c.index-base.result.now graph laid.layout_is.laid has c.index-base.ensures in
     number-found c.args.graphs.now.graphs c.args.layout.now c.args.context c.args.address c.index-base.result.now c.position_of.result
-        graph c.units_in-units.result.now has same begins c.position_of.ensures
+    graph c.units_in-units.result.now has same begins c.position_of.ensures

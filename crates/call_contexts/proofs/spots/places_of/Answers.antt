@@ -56,4 +56,4 @@ returns-clause-laid c =
     let all : c.loop-context.context ≡ length c.args.layout.now.contexts.keys =
     omega (arith, c.loop-context-test.false, c.len-context-end.ensures, c.requires.laid.functions) in
     places-laid c.args.graphs.now.graphs c.args.layout.now base c.loop-context.places.items c.requires.laid
-        (subst (λ (n : ℕ). slice_get c.args.layout.now.bases.items n ≡ Some base) all begins) are
+    (subst (λ (n : ℕ). slice_get c.args.layout.now.bases.items n ≡ Some base) all begins) are
