@@ -13,6 +13,7 @@ pub mod Adding
 pub mod Bases
 pub mod Summing
 pub mod Expanding
+pub mod GraphFunctions
 -- The net is nested.
 pub mod NetItems
 -- A program has one net.
