@@ -14,6 +14,7 @@ pub mod Bases
 pub mod Summing
 pub mod Expanding
 pub mod GraphFunctions
+pub mod CallGraph
 -- The net is nested.
 pub mod NetItems
 -- A program has one net.
