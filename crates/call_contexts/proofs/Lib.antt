@@ -15,6 +15,7 @@ pub mod Summing
 pub mod Expanding
 pub mod GraphFunctions
 pub mod CallGraph
+pub mod ProgramSizes
 -- The net is nested.
 pub mod NetItems
 -- A program has one net.

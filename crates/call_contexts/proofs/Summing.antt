@@ -14,7 +14,7 @@ use Rattle.call_contexts.specs.declared.calls.Called.{Called}
 use Rattle.call_contexts.proofs.Places.{map_at}
 
 -- Each position of the lists has a one.
-one_at : (n k : ℕ) → k < n → number_of (replicate n 1) k ≡ 1
+pub one_at : (n k : ℕ) → k < n → number_of (replicate n 1) k ≡ 1
 one_at zero k less = absurd (omega (arith, less))
 one_at (suc n) zero less = refl
 one_at (suc n) (suc k) less = one_at n k (omega (arith, less))
