@@ -16,6 +16,7 @@ pub mod Expanding
 pub mod GraphFunctions
 pub mod CallGraph
 pub mod ProgramSizes
+pub mod LayingOut
 -- The net is nested.
 pub mod NetItems
 -- A program has one net.

@@ -74,3 +74,9 @@ zip_right R [] (b ∷ ys) all k y h = absurd all
 zip_right R (a ∷ xs) [] all k y h = absurd all
 zip_right {A} {B} R (a ∷ xs) (b ∷ ys) all zero y h = (a, refl, subst (λ (one : B). R a one) (same_Some b y h) all.0)
 zip_right R (a ∷ xs) (b ∷ ys) all (suc k) y h = zip_right R xs ys all.1 k y h
+
+pub zip_length : {A B : Type 0} (R : A → B → Type 0) (xs : List A) (ys : List B) → AllZip R xs ys → length ys ≡ length xs
+zip_length R [] [] all = refl
+zip_length R [] (b ∷ ys) all = absurd all
+zip_length R (a ∷ xs) [] all = absurd all
+zip_length R (a ∷ xs) (b ∷ ys) all = omega (arith, zip_length R xs ys all.1)

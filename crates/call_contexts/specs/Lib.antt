@@ -2,5 +2,6 @@
 pub mod Sizes
 pub mod Programs
 pub mod Counting
+pub mod Counted
 pub mod Expansion
 pub mod Layout
