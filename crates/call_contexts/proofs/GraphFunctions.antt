@@ -84,3 +84,9 @@ place_in-is image entry graphs are function position at =
     before k less = other_entry (get_or graphs.graphs k at.graph) function (λ same.
         graphs_apart image entry graphs are k position (get_or graphs.graphs k at.graph) at.graph less
             (slice_get-get_or graphs.graphs k at.graph (omega (arith, less, within))) at.there (same ∙ sym at.same))
+
+-- The first graph, as it is read.
+pub first_read : (image : Image) (entry : ℕ) (graphs : Graphs) (are : AreGraphs image entry graphs) (given : List Graph) (d : Graph) → given ≡ graphs.graphs →
+    get_or given 0 d ≡ are.first
+first_read image entry graphs are given d same =
+    ap (λ (gs : List Graph). get_or gs 0 d) same ∙ get_or_from_slice_get graphs.graphs 0 are.first d (first_graph image entry graphs are)

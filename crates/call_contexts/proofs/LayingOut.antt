@@ -54,7 +54,7 @@ module _ (image : Image) (entry : ℕ) (graphs : Graphs) (lists : List (List Cal
           (subst (λ (f : ℕ). IsGraphAt graphs.graphs f made.one.graph) (ap (λ (c : Context). c.target) made.same) placed)
 
   -- Each context's position, and each position's context.
-  context_at : (number position : ℕ) → slice_get functions number ≡ Some position → (context : Context) × (slice_get contexts number ≡ Some context)
+  pub context_at : (number position : ℕ) → slice_get functions number ≡ Some position → (context : Context) × (slice_get contexts number ≡ Some context)
   context_at number position at =
       (get_or contexts number (root entry), slice_get-get_or contexts number (root entry) (omega (arith, slice_get_within functions number position at, all.expanded.sized)))
 

@@ -17,6 +17,8 @@ pub mod GraphFunctions
 pub mod CallGraph
 pub mod ProgramSizes
 pub mod LayingOut
+pub mod Returns
+pub mod LaidOut
 -- The net is nested.
 pub mod NetItems
 -- A program has one net.

@@ -57,11 +57,12 @@ fn lay_out(alloc: Global, entry: u32, counted: &Counted) -> Result<Layout, Alloc
     ensures { IfOk result (IsMade entry counted.now.units.items counted.now.lists.items counted.now.sizes.contexts) }
 {
     let count = counted.sizes.contexts as u32;
+    let made = make_contexts(alloc, entry, &counted.lists, count)?;
+    let bases = bases_of(alloc, &counted.units, &made.functions)?;
     let Expanded {
         contexts,
         functions,
-    } = make_contexts(alloc, entry, &counted.lists, count)?;
-    let bases = bases_of(alloc, &counted.units, &functions)?;
+    } = made;
     Ok(Layout {
         contexts,
         functions,
