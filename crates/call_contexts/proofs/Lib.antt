@@ -43,6 +43,12 @@ mod CallScopes
 mod NetGround
 mod HeldUnits
 mod InstanceNet
+pub mod GraphFunctions
+pub mod CallGraph
+pub mod ProgramSizes
+pub mod LayingOut
+pub mod Returns
+pub mod LaidOut
 -- The net is nested.
 pub mod NetItems
 pub mod Numerals

@@ -1,5 +1,6 @@
 -- What stands at the places of lists.
 use Rattle.std.proofs.Common.{◌≡◌, ℕ, zero, suc, ◌+◌, ◌<◌, ◌⊎◌, inl, inr, List, [], ◌∷◌, ◌++◌, length, map, drop, get_or, slice_get, AllPairs, Some, refl, sym, ap, subst, ◌∙◌, arith}
+use Rattle.std.specs.List.{AllZip}
 use Rattle.std.proofs.lemmas.Option.{get_or_from_slice_get, none-some, same_Some, slice_get-get_or, slice_get_within}
 
 -- What stands among the images of a list is the image of what stands there.
@@ -56,3 +57,26 @@ pairs_by R xs each i j d less within =
 pub behind_first : {X : Type 0} (xs : List X) (i : ℕ) → slice_get (drop 1 xs) i ≡ slice_get xs (suc i)
 behind_first [] i = refl
 behind_first (x ∷ xs) i = refl
+
+-- Lists that go together.
+pub zip_left : {A B : Type 0} (R : A → B → Type 0) (xs : List A) (ys : List B) → AllZip R xs ys → (k : ℕ) (x : A) →
+    slice_get xs k ≡ Some x → (y : B) × (slice_get ys k ≡ Some y) × R x y
+zip_left R [] [] all k x h = absurd (none-some x h)
+zip_left R [] (b ∷ ys) all k x h = absurd all
+zip_left R (a ∷ xs) [] all k x h = absurd all
+zip_left {A} R (a ∷ xs) (b ∷ ys) all zero x h = (b, refl, subst (λ (one : A). R one b) (same_Some a x h) all.0)
+zip_left R (a ∷ xs) (b ∷ ys) all (suc k) x h = zip_left R xs ys all.1 k x h
+
+pub zip_right : {A B : Type 0} (R : A → B → Type 0) (xs : List A) (ys : List B) → AllZip R xs ys → (k : ℕ) (y : B) →
+    slice_get ys k ≡ Some y → (x : A) × (slice_get xs k ≡ Some x) × R x y
+zip_right R [] [] all k y h = absurd (none-some y h)
+zip_right R [] (b ∷ ys) all k y h = absurd all
+zip_right R (a ∷ xs) [] all k y h = absurd all
+zip_right {A} {B} R (a ∷ xs) (b ∷ ys) all zero y h = (a, refl, subst (λ (one : B). R a one) (same_Some b y h) all.0)
+zip_right R (a ∷ xs) (b ∷ ys) all (suc k) y h = zip_right R xs ys all.1 k y h
+
+pub zip_length : {A B : Type 0} (R : A → B → Type 0) (xs : List A) (ys : List B) → AllZip R xs ys → length ys ≡ length xs
+zip_length R [] [] all = refl
+zip_length R [] (b ∷ ys) all = absurd all
+zip_length R (a ∷ xs) [] all = absurd all
+zip_length R (a ∷ xs) (b ∷ ys) all = omega (arith, zip_length R xs ys all.1)

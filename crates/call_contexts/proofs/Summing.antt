@@ -14,7 +14,7 @@ use Rattle.call_contexts.specs.declared.calls.Called.{Called}
 use Rattle.call_contexts.proofs.Places.{map_at}
 
 -- Each position of the lists has a one.
-one_at : (n k : ℕ) → k < n → number_of (replicate n 1) k ≡ 1
+pub one_at : (n k : ℕ) → k < n → number_of (replicate n 1) k ≡ 1
 one_at zero k less = absurd (omega (arith, less))
 one_at (suc n) zero less = refl
 one_at (suc n) (suc k) less = one_at n k (omega (arith, less))
@@ -81,3 +81,12 @@ none_left lists functions count total within adds sums same reached = by_case (c
             (get_or lists (get_or functions count 0) []) (slice_get-get_or lists (get_or functions count 0) [] here) in
         let back = sum_by-drop_more total functions count 0 there in
         absurd (omega (arith, all, counted, taken, next, back, same, one_at (length lists) (get_or functions count 0) here))
+
+-- Then the own numbers of all contexts make up the first position's.
+pub sums_all : (lists : List (List Called)) (functions : List ℕ) (count : ℕ) → SumsUp lists functions count → length functions ≡ count →
+    (own : List ℕ) (total : ℕ → ℕ) → length own ≡ length lists → AddsAlong (steps_of lists) own total → sum_by (number_of own) functions ≡ total 0
+sums_all lists functions count sums same own total sized adds =
+    let all = sums own total sized adds in
+    let taken = ap (λ (n : ℕ). sum_by (number_of own) (take n functions)) (sym same) ∙ ap (sum_by (number_of own)) (take-length functions) in
+    let dropped = ap (sum_by total) (drop_of_length-le functions {i = count} (omega (arith, same))) in
+    omega (arith, all, taken, dropped)

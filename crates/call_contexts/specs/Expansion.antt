@@ -3,10 +3,12 @@ use Rattle.std.specs.Prelude.{◌≡◌, ℕ, suc, ◌+◌, ◌<◌, ◌≤◌, 
 use Rattle.flow_net.specs.declared.net.Context.{Context}
 use Rattle.net_model.specs.Contexts.{IsContextBefore, made_by, root}
 use Rattle.step_table.specs.Numbers.{number_of}
-use Rattle.call_contexts.specs.Counting.{AddsAlong, call_of, steps_of}
+use Rattle.step_table.specs.Table.{IsWithin}
+use Rattle.call_contexts.specs.Counting.{AddsAlong, IsTotalOfFirst, call_of, ones_for, steps_of}
 use Rattle.call_contexts.specs.Layout.{IsMadeAs}
 use Rattle.call_contexts.specs.Sizes.{IsCallAfter}
 use Rattle.call_contexts.specs.declared.calls.Called.{Called}
+use Rattle.call_contexts.specs.declared.layout.Layout.{Layout}
 
 -- The context that a call makes.
 abbrev pub context_of : (parent : ℕ) → Called → Context
@@ -56,3 +58,18 @@ SumsUp lists functions done = (own : List ℕ) (total : ℕ → ℕ) → length 
 pub record AreBases (units functions bases : List ℕ) : Type 0 where
   pub count : length bases ≡ suc (length functions)
   pub each : (context : ℕ) → context ≤ length functions → slice_get bases context ≡ Some (1 + sum_by (number_of units) (take context functions))
+
+-- Lists of calls that make so many contexts from an entry on: the entry function is not called.
+pub record AreReady (entry : ℕ) (lists : List (List Called)) (count : ℕ) : Type 0 where
+  pub some : 0 < length lists
+  pub within : IsWithin (steps_of lists)
+  pub rising : All RiseCalls lists
+  pub other : (calls : List Called) → slice_get lists 0 ≡ Some calls → All (λ (one : Called). one.target ≡ entry → ⊥) calls
+  pub counted : IsTotalOfFirst (steps_of lists) (ones_for lists) count
+
+-- So many contexts from an entry on, laid out.
+pub record IsMade (entry : ℕ) (units : List ℕ) (lists : List (List Called)) (count : ℕ) (layout : Layout) : Type 0 where
+  pub expanded : AreExpanded entry lists layout.contexts.keys layout.functions.items count
+  pub counted : length layout.functions.items ≡ count
+  pub sums : SumsUp lists layout.functions.items count
+  pub bases : AreBases units layout.functions.items layout.bases.items

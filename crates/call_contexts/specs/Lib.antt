@@ -2,6 +2,7 @@
 pub mod Sizes
 pub mod Programs
 pub mod Counting
+pub mod Counted
 pub mod Expansion
 pub mod Layout
 -- Places and arcs.

@@ -4,7 +4,7 @@ ghost use Rattle.std.specs.Prelude.{◌≡◌, ◌≤◌, ◌<◌, ◌++◌, ℕ
 ghost use Rattle.step_table.specs.Numbers.{number_of};
 ghost use Rattle.step_table.specs.Table.{IsWithin};
 ghost use Rattle.call_contexts.specs.Counting.{IsTotalOfFirst, ones_for, steps_of, steps_in};
-ghost use Rattle.call_contexts.specs.Expansion.{AreBases, AreExpanded, HasCalls, RiseCalls, SumsUp, context_of};
+ghost use Rattle.call_contexts.specs.Expansion.{AreBases, AreExpanded, AreReady, HasCalls, RiseCalls, SumsUp, context_of};
 ghost use Rattle.call_contexts.specs.Sizes.{most_contexts, most_places};
 ghost use Rattle.call_contexts.specs.declared.calls.Called.{Called};
 
@@ -64,11 +64,7 @@ pub fn make_contexts(
     lists: &[List<Called>],
     count: u32,
 ) -> Result<Expanded, AllocError>
-    requires some { 0 < length lists.now }
-    requires within { IsWithin (steps_of lists.now) }
-    requires rising { All RiseCalls lists.now }
-    requires other { (calls : List Called) → slice_get lists.now 0 ≡ Some calls → All (λ one. one.target ≡ entry → ⊥) calls }
-    requires count { IsTotalOfFirst (steps_of lists.now) (ones_for lists.now) count }
+    requires { AreReady entry lists.now count }
     ensures expanded { IfOk result (λ made. AreExpanded entry lists.now made.contexts.keys made.functions.items count) }
     ensures count { IfOk result (λ made. length made.functions.items ≡ count) }
     ensures sums { IfOk result (λ made. SumsUp lists.now made.functions.items count) }

@@ -1,11 +1,12 @@
 //! How many contexts and places a program has.
 
-ghost use Rattle.std.specs.Prelude.{◌≡◌, ◌<◌, ◌+◌, ◌^◌, min, All, IfOk, OnOk, length, sum_by};
+ghost use Rattle.std.specs.Prelude.{◌≡◌, ◌<◌, ◌+◌, ℕ, All, IfOk, length, sum_by};
+ghost use Rattle.elf_mips.specs.declared.image.Image.{Image};
 ghost use Rattle.step_table.specs.Numbers.{number_of};
 ghost use Rattle.step_table.specs.Table.{IsWithin};
 ghost use Rattle.call_contexts.specs.Counting.{AreToldAll, IsAcyclic, IsFinished, IsToldFirst, ones_for, steps_in, steps_of, told_of, unit_counts};
 
-use crate::calls::Called;
+use crate::calls::{Called, call_lists};
 use std::alloc::{AllocError, Global};
 use step_table::{order_of, steps_at};
 use unit_graph::Graph;
@@ -134,4 +135,33 @@ pub fn sizes_told(
     let contexts = first_told(alloc, &table, &order, &ones)?;
     let places = first_told(alloc, &table, &order, units)?;
     Ok(Sizes { contexts, places })
+}
+
+ghost use Rattle.call_contexts.specs.Counted.{IsCounted};
+ghost use Rattle.call_contexts.specs.Layout.{HasGraphs};
+
+/// The calls of graphs, their units, and how much they make.
+#[derive(Drop)]
+pub struct Counted {
+    /// For each graph its calls.
+    pub lists: Vec<List<Called>>,
+    /// For each graph the number of its units.
+    pub units: Vec<u64>,
+    /// How many contexts and places the first graph makes.
+    pub sizes: Sizes,
+}
+
+/// The calls of a program's graphs, their units, and how many contexts and places the first graph makes.
+pub fn count_all(alloc: Global, graphs: &[Graph]) -> Result<Counted, AllocError>
+    requires { (image : Image) × (entry : ℕ) × HasGraphs image entry (record { graphs = graphs.now }) }
+    ensures { IfOk result (λ counted. IsCounted graphs.now counted) }
+{
+    let lists = call_lists(alloc, graphs)?;
+    let units = unit_counts(alloc, graphs)?;
+    let sizes = sizes_told(alloc, &units, &lists)?;
+    Ok(Counted {
+        lists,
+        units,
+        sizes,
+    })
 }

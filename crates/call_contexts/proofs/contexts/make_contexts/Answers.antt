@@ -13,8 +13,8 @@ use Rattle.call_contexts.proofs.contexts.make_contexts.Goals as goal
 pub calls_made-calls-requires-clause-there : goal.calls_made-calls-requires-clause-there
 calls_made-calls-requires-clause-there c =
     subst (λ (functions : List ℕ). c.loop-parent.parent < length functions) (sym c.deref.ensures.value)
-    (one_left c.args.lists.now c.loop-parent.functions.items c.loop-parent.parent c.requires.count.total c.loop-parent.invariant.expanded.within
-        c.requires.count.adds c.loop-parent.invariant.sums (omega (arith, c.requires.count.same, c.loop-parent-test.true)))
+    (one_left c.args.lists.now c.loop-parent.functions.items c.loop-parent.parent c.requires.counted.total c.loop-parent.invariant.expanded.within
+        c.requires.counted.adds c.loop-parent.invariant.sums (omega (arith, c.requires.counted.same, c.loop-parent-test.true)))
 
 pub add_made-requires-clause-rising : goal.add_made-requires-clause-rising
 add_made-requires-clause-rising c =
@@ -49,6 +49,6 @@ loop-parent-preserved c =
 pub returns-clause-count : goal.returns-clause-count
 returns-clause-count c =
     let ends : c.loop-parent.parent ≡ c.args.count = omega (arith, c.loop-parent-test.false, c.loop-parent.auto.parent-end) in
-    none_left c.args.lists.now c.loop-parent.functions.items c.args.count c.requires.count.total c.loop-parent.invariant.expanded.within
-        c.requires.count.adds (subst (λ (done : ℕ). SumsUp c.args.lists.now c.loop-parent.functions.items done) ends c.loop-parent.invariant.sums)
-        c.requires.count.same (omega (arith, ends, c.loop-parent.invariant.reached))
+    none_left c.args.lists.now c.loop-parent.functions.items c.args.count c.requires.counted.total c.loop-parent.invariant.expanded.within
+        c.requires.counted.adds (subst (λ (done : ℕ). SumsUp c.args.lists.now c.loop-parent.functions.items done) ends c.loop-parent.invariant.sums)
+        c.requires.counted.same (omega (arith, ends, c.loop-parent.invariant.reached))
