@@ -1,5 +1,22 @@
 -- Laws of the net of a program.
 pub mod Items
+-- Sizes and layout of the contexts.
+pub mod Bisection
+pub mod Places
+pub mod Numbering
+pub mod Telling
+pub mod GraphPlaces
+pub mod Calling
+pub mod Finishing
+pub mod Totals
+pub mod Adding
+pub mod Bases
+pub mod Summing
+pub mod Expanding
+pub mod GraphFunctions
+pub mod CallGraph
+pub mod ProgramSizes
+pub mod LayingOut
 -- Loop instances and scopes.
 mod Nodes
 mod AroundLaws
@@ -8,10 +25,6 @@ mod ScopeLists
 mod BodySearch
 mod Growing
 mod Parts
--- Sizes and layout of the contexts.
-pub mod Bisection
-pub mod Places
-pub mod Numbering
 mod InstanceLists
 mod RoundLists
 mod CallScopes
@@ -27,3 +40,12 @@ pub mod NetPaths
 pub mod NetNumbers
 pub mod Entering
 pub mod NestedNet
+-- A program has one net.
+pub mod Keyed
+pub mod ContextsOnce
+pub mod ScopesOnce
+pub mod NetOnce
+-- A program has one number of contexts and one of places.
+pub mod GraphCalls
+pub mod SizesOnce
+pub mod SameSizes

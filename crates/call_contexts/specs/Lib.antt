@@ -1,6 +1,9 @@
 -- What the net of a program says of it.
 pub mod Sizes
 pub mod Programs
+pub mod Counting
+pub mod Counted
+pub mod Expansion
 pub mod Layout
 -- Loop instances and scopes.
 pub mod Around

@@ -2,12 +2,15 @@
 #![tactic(auto)]
 
 mod around;
+mod calls;
+mod contexts;
 mod fault;
 mod index;
 mod instances;
 mod layout;
 mod program;
 mod scopes;
+mod sizes;
 
 pub use fault::NetFault;
 pub use program::expand;

@@ -1,27 +1,26 @@
 -- Where no reached unit may call or jumps to recorded targets, a function reaches plainly what it reaches as code.
-use Rattle.std.proofs.Common.{◌≡◌, ℕ, ◌+◌, ◌==◌, Bool, true, false, not, cond, List, [], ◌∷◌, ◌++◌, Option, refl, ap, sym, ◌∙◌, arith}
+use Rattle.std.proofs.Common.{◌≡◌, ℕ, ◌+◌, ◌==◌, Bool, true, false, not, List, [], ◌∷◌, ◌++◌, Option, refl, ap, sym, ◌∙◌}
 use Rattle.std.specs.Prelude.{Contains, ◌&&◌, ◌||◌, if◌then◌else◌}
 use Rattle.elf_mips.specs.declared.image.Image.{Image}
 use Rattle.mips_decode.specs.Records.{needs_target}
 use Rattle.mips_decode.specs.Transfer.{branch_links, branch_target, jump_target}
 use Rattle.mips_decode.specs.declared.instr.Instr.{Instr}
 use Rattle.mips_decode.specs.declared.instr.Instr.TheVariants.{Three, Shift, HiLo, MulDiv, Imm, Lui, Load, Store, Branch, Jump, JumpReg, JumpLink, Stop}
-use Rattle.net_model.specs.declared.unit.CodeKind.{CodeKind}
 use Rattle.net_model.specs.declared.unit.CodeKind.TheVariants.{LinkRegister, UnknownTarget}
 use Rattle.net_model.specs.declared.unit.CodeUnit.{CodeUnit}
 use Rattle.net_model.specs.declared.unit.Content.{Content}
 use Rattle.net_model.specs.declared.unit.Content.TheVariants.{Unit as Stands, Fault}
 use Rattle.net_model.specs.Faults.{HasNoFault, faulty}
-use Rattle.net_model.specs.Flow.{called, callees, own_ways, ways_on}
+use Rattle.net_model.specs.Flow.{called, own_ways, ways_on}
 use Rattle.net_model.specs.Functions.{GoesOn, IsReached, back, first, main, next, onward}
-use Rattle.net_model.specs.Onward.{branch_ways, calls, is_call, is_indirect, is_return, may_be_passed, may_be_taken, returns, stops}
+use Rattle.net_model.specs.Onward.{branch_ways, calls, is_indirect, may_be_passed, may_be_taken, returns, stops}
 use Rattle.net_model.specs.Onward.{onward as plain_onward}
 use Rattle.net_model.specs.Reached.{IsReached as IsReachedPlainly}
 use Rattle.net_model.specs.Reached.{first as plain_first, next as plain_next}
 use Rattle.net_model.specs.Targets.{is_none, linked, linked_content, links_elsewhere, targets_at, unit_at}
 use Rattle.net_model.specs.Units.{content_at}
 use Rattle.net_model.specs.Ways.{GoesOn as GoesOnPlainly}
-use Rattle.net_model.proofs.Plain.{in_none, plain-goes, plain-reached}
+use Rattle.net_model.proofs.Plain.{in_none, plain-goes}
 
 -- The unit doesn't call and doesn't jump to recorded targets.
 pub record IsFollowed (unit : CodeUnit) : Type 0 where

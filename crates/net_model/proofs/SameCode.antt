@@ -13,7 +13,7 @@ use Rattle.net_model.specs.declared.unit.Content.{Content}
 use Rattle.net_model.specs.declared.unit.Content.TheVariants.{Unit as Stands, Fault}
 use Rattle.net_model.specs.Faults.{Offends, faulty, recursive}
 use Rattle.net_model.specs.Flow.{called, callees, own_ways, ways_on}
-use Rattle.net_model.specs.Functions.{Calls, CanReturn, GoesOn, IsCallWay, IsFunction, IsReached, back, first, further, main, next, onward, returned}
+use Rattle.net_model.specs.Functions.{Calls, CallsAt, CanReturn, GoesOn, IsCallWay, IsFunction, IsReached, back, first, further, main, next, onward, returned}
 use Rattle.net_model.specs.Onward.{stops}
 use Rattle.net_model.specs.Targets.{is_none, linked_content, links_elsewhere, names_target, targets_at, unit_at}
 use Rattle.net_model.specs.Units.{content_at}
@@ -52,7 +52,7 @@ own_ways-same a b (Load op rt base offset) address same = refl
 own_ways-same a b (Store op rt base offset) address same = refl
 own_ways-same a b (Stop op code) address same = refl
 
-ways-same : (a b : Image) (unit : CodeUnit) (address : ℕ) → IsSameCode a b → ways_on a unit address ≡ ways_on b unit address
+pub ways-same : (a b : Image) (unit : CodeUnit) (address : ℕ) → IsSameCode a b → ways_on a unit address ≡ ways_on b unit address
 ways-same a b unit address same =
     ap (λ (ways : List ℕ). if stops unit then [] else ways) (own_ways-same a b unit.instr address same)
 
@@ -71,7 +71,7 @@ callees-same a b (Load op rt base offset) address same = refl
 callees-same a b (Store op rt base offset) address same = refl
 callees-same a b (Stop op code) address same = refl
 
-called-same : (a b : Image) (unit : CodeUnit) (address : ℕ) → IsSameCode a b → called a unit address ≡ called b unit address
+pub called-same : (a b : Image) (unit : CodeUnit) (address : ℕ) → IsSameCode a b → called a unit address ≡ called b unit address
 called-same a b unit address same =
     ap (λ (calls : List ℕ). if stops unit then [] else calls) (callees-same a b unit.instr address same)
 
@@ -98,15 +98,18 @@ mutual
       returned function address unit (reached-same a b same function address reached)
       (stands-same a b address (Stands unit) same stands) leaves
 
+pub calls_at-same : (a b : Image) → IsSameCode a b → (address callee : ℕ) → CallsAt a address callee → CallsAt b address callee
+calls_at-same a b same address callee calls = record {
+  unit = calls.unit;
+  stands = stands-same a b address (Stands calls.unit) same calls.stands;
+  called = subst (λ (all : List ℕ). Contains all callee) (called-same a b calls.unit address same) calls.called;
+}
+
 calls-same : (a b : Image) → IsSameCode a b → (function callee : ℕ) → Calls a function callee → Calls b function callee
 calls-same a b same function callee calls = record {
   address = calls.address;
   reached = reached-same a b same function calls.address calls.reached;
-  calls = record {
-    unit = calls.calls.unit;
-    stands = stands-same a b calls.address (Stands calls.calls.unit) same calls.calls.stands;
-    called = subst (λ (all : List ℕ). Contains all callee) (called-same a b calls.calls.unit calls.address same) calls.calls.called;
-  };
+  calls = calls_at-same a b same calls.address callee calls.calls;
 }
 
 pub function-same : (a b : Image) → IsSameCode a b → (entry function : ℕ) → IsFunction a entry function → IsFunction b entry function
