@@ -29,6 +29,10 @@ pub mod PlaceAccesses
 pub mod HasItsPlaces
 pub mod HasItsArcs
 pub mod WholeNet
+pub mod GraphFunctions
+pub mod CallGraph
+pub mod ProgramSizes
+pub mod LayingOut
 -- Loop instances and scopes.
 mod Nodes
 mod AroundLaws
