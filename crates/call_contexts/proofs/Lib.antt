@@ -13,6 +13,12 @@ pub mod Adding
 pub mod Bases
 pub mod Summing
 pub mod Expanding
+pub mod GraphFunctions
+pub mod CallGraph
+pub mod ProgramSizes
+pub mod LayingOut
+pub mod Returns
+pub mod LaidOut
 -- Places, arcs and accesses of a layout.
 pub mod SpotNumbers
 pub mod ContextOrder
@@ -29,10 +35,6 @@ pub mod PlaceAccesses
 pub mod HasItsPlaces
 pub mod HasItsArcs
 pub mod WholeNet
-pub mod GraphFunctions
-pub mod CallGraph
-pub mod ProgramSizes
-pub mod LayingOut
 -- Loop instances and scopes.
 mod Nodes
 mod AroundLaws
@@ -47,12 +49,6 @@ mod CallScopes
 mod NetGround
 mod HeldUnits
 mod InstanceNet
-pub mod GraphFunctions
-pub mod CallGraph
-pub mod ProgramSizes
-pub mod LayingOut
-pub mod Returns
-pub mod LaidOut
 -- The net is nested.
 pub mod NetItems
 pub mod Numerals
