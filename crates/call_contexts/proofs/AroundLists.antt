@@ -10,7 +10,6 @@ use Rattle.loop_nest.specs.declared.nest.Loop.{Loop}
 use Rattle.loop_nest.proofs.Dominance.{body-reached, header-reached}
 use Rattle.loop_nest.proofs.NestLaws.{among}
 use Rattle.step_table.proofs.Seen.{slice_get-set_other, slice_get-set_same, slice_get-replicate}
-use Rattle.net_model.specs.Loops.{IsInBody}
 use Rattle.unit_graph.specs.declared.node.Unit.{Unit as Node}
 use Rattle.call_contexts.specs.Around.{AreNearest, AreNearing, AreUnitsOf, IsInner, IsNearestBy, addresses_of}
 use Rattle.call_contexts.specs.Layout.{HasNode}

@@ -1,6 +1,6 @@
 -- Which loop instances hold a unit of a context: those of its function's loops that hold it, and those that hold the
 -- call which made the context.
-use Rattle.std.proofs.Common.{◌≡◌, ℕ, zero, suc, ◌+◌, ◌<◌, ◌≤◌, ◌⊎◌, inl, inr, List, length, slice_get, Contains, Option, Some, None, refl, sym, ap, subst, ◌∙◌, arith}
+use Rattle.std.proofs.Common.{◌≡◌, ℕ, suc, ◌+◌, ◌<◌, ◌≤◌, ◌⊎◌, inl, inr, List, length, slice_get, Option, Some, None, sym, ap, subst, ◌∙◌, arith}
 use Rattle.std.proofs.lemmas.Bool.{cases_order}
 use Rattle.std.proofs.lemmas.Option.{same_Some, slice_get_within}
 use Rattle.elf_mips.specs.declared.image.Image.{Image}
@@ -8,13 +8,12 @@ use Rattle.flow_net.specs.declared.net.Context.{Context}
 use Rattle.flow_net.specs.declared.net.Net.{Net}
 use Rattle.loop_nest.specs.declared.nest.Loop.{Loop}
 use Rattle.loop_nest.specs.Nests.{IsNest}
-use Rattle.loop_nest.proofs.Dominance.{same_or_other}
-use Rattle.net_model.specs.Instances.{HoldsUnit, IsInBodyOf, IsInside, IsInnermostOf, IsLoopAt, IsNextOutward, IsOuterOf, IsScopeOf, body, made}
+use Rattle.net_model.specs.Instances.{HoldsUnit, IsInside, IsInnermostOf, IsLoopAt, IsNextOutward, IsOuterOf, IsScopeOf, body, made}
 use Rattle.net_model.specs.Loops.{IsInBody, head}
 use Rattle.call_contexts.specs.Around.{IsNearest, IsNearestBy, IsNoHeader, IsOwnBy, IsRound}
 use Rattle.call_contexts.specs.Instances.{scope_by}
 use Rattle.call_contexts.proofs.AroundLaws.{body-of, loop-at}
-use Rattle.call_contexts.proofs.NetGround.{Frame, Ground, context-inside, loop-laid, loop-spot}
+use Rattle.call_contexts.proofs.NetGround.{Frame, Ground, loop-laid, loop-spot}
 use Rattle.call_contexts.proofs.NetItems.{loop-header}
 use Rattle.call_contexts.proofs.Parts.{rise-headers}
 

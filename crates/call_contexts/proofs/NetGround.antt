@@ -2,7 +2,6 @@
 use Rattle.std.proofs.Common.{◌≡◌, ℕ, zero, suc, ◌+◌, ◌-◌, ◌<◌, ◌≤◌, List, [], ◌∷◌, length, get_or, slice_get, Some, refl, sym, ap, subst, ◌∙◌, arith}
 use Rattle.std.proofs.lemmas.Option.{none-some, same_Some, slice_get-get_or, slice_get_within}
 use Rattle.elf_mips.specs.declared.image.Image.{Image}
-use Rattle.flow_net.specs.Numbers.{item_at}
 use Rattle.flow_net.specs.declared.net.Context.{Context}
 use Rattle.flow_net.specs.declared.net.LoopInst.{LoopInst}
 use Rattle.flow_net.specs.declared.net.Net.{Net}

@@ -56,7 +56,7 @@ number_same contexts apart wanted number found there is =
     not_behind (inr l) = l
     not_behind (inl l) =
         absurd (apart found number wanted l (slice_get_within contexts number wanted there)
-            (sym ((is_same-decides wanted (get_or contexts found wanted)).0 first.1) ∙ sym at_number))
+        (sym ((is_same-decides wanted (get_or contexts found wanted)).0 first.1) ∙ sym at_number))
 
 -- The number that is found is the one that the context has.
 pub number_found : (contexts : List Context) → AllPairs (λ (a b : Context). a ≢ b) contexts → (parent site callee number found : ℕ) →

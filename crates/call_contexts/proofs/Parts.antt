@@ -1,5 +1,5 @@
 -- The parts of a context of a program that is laid out, and how the numbers of its places and instances grow.
-use Rattle.std.proofs.Common.{◌≡◌, ℕ, zero, suc, ◌+◌, ◌<◌, ◌≤◌, inl, inr, List, [], ◌∷◌, length, map, get_or, slice_get, Contains, Option, Some, None, refl, sym, ap, subst, ◌∙◌, arith}
+use Rattle.std.proofs.Common.{◌≡◌, ℕ, zero, suc, ◌+◌, ◌<◌, ◌≤◌, List, [], ◌∷◌, length, get_or, slice_get, Contains, Option, Some, None, refl, sym, ap, subst, ◌∙◌, arith}
 use Rattle.std.specs.Prelude.{option_map}
 use Rattle.std.proofs.lemmas.Option.{get_or_from_slice_get, none-some, same_Some, slice_get-get_or, slice_get-map, slice_get_within}
 use Rattle.elf_mips.specs.declared.image.Image.{Image}
@@ -19,7 +19,7 @@ use Rattle.call_contexts.specs.Layout.{HasGraph, HasNode}
 use Rattle.call_contexts.specs.Programs.{IsProgram}
 use Rattle.call_contexts.specs.declared.layout.Layout.{Layout}
 use Rattle.call_contexts.proofs.AroundLists.{header-among}
-use Rattle.call_contexts.proofs.Growing.{Grow, Lies, grows, zip-at}
+use Rattle.call_contexts.proofs.Growing.{Grow, zip-at}
 use Rattle.call_contexts.proofs.Nodes.{later_node}
 
 -- The unit at an address of a list.

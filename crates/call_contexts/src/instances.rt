@@ -26,13 +26,13 @@ ghost use Rattle.call_contexts.specs.Instances.{AddsInstances, AreInstances, Has
 
 /// Where a context's places and loop instances begin, and the scope round it.
 #[derive(Clone, Copy, Debug)]
-pub struct Frame {
+struct Frame {
     /// The number of its first place.
-    pub base: u32,
+    base: u32,
     /// How many loop instances the earlier contexts have.
-    pub first: u32,
+    first: u32,
     /// The scope of the call that made it, or 0.
-    pub outer: u32,
+    outer: u32,
 }
 
 /// The instance of a loop in a context.

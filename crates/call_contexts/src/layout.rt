@@ -1,13 +1,16 @@
 //! How the contexts of a program are laid out.
 
 ghost use Rattle.std.specs.Prelude.{◌≡◌, ◌≤◌, ℕ, ◌-◌, length, slice_get, Some, IfErr, IfOk, OnOk};
+ghost use Rattle.std.specs.Bool.{OnFalse, OnTrue};
 ghost use Rattle.elf_mips.specs.declared.image.Image.{Image};
 ghost use Rattle.net_model.specs.Functions.{CanReturn};
 
+use crate::contexts::{Expanded, bases_of, make_contexts};
 use crate::fault::NetFault;
+use crate::sizes::{Counted, Sizes, count_all};
 use flow_net::Context;
 use indexmap::IndexSet;
-use std::alloc::Global;
+use std::alloc::{AllocError, Global};
 use unit_graph::Graphs;
 
 /// The contexts of a program, with the graphs of their functions and the numbers of their places.
@@ -22,9 +25,11 @@ pub struct Layout {
     pub bases: Vec<u32>,
 }
 
-ghost use Rattle.call_contexts.specs.Layout.{HasGraphs, IsLaidOut, IsLayout, IsMadeAs};
-ghost use Rattle.call_contexts.specs.Programs.{TellsFault};
-ghost use Rattle.call_contexts.specs.Sizes.{AreSizes, most_contexts};
+ghost use Rattle.call_contexts.specs.Counted.{IsFit};
+ghost use Rattle.call_contexts.specs.Expansion.{IsMade};
+ghost use Rattle.call_contexts.specs.Layout.{HasGraphs, IsLayout, IsMadeAs};
+ghost use Rattle.call_contexts.specs.Programs.{AreTooMany, TellsFault};
+ghost use Rattle.call_contexts.specs.Sizes.{AreSizes, most_contexts, most_places};
 
 impl Layout {
     /// The number of the context that a call makes.
@@ -46,6 +51,34 @@ impl Layout {
     }
 }
 
+/// The contexts from an entry on and their places, laid out.
+fn lay_out(alloc: Global, entry: u32, counted: &Counted) -> Result<Layout, AllocError>
+    requires { IsFit entry counted.now }
+    ensures { IfOk result (IsMade entry counted.now.units.items counted.now.lists.items counted.now.sizes.contexts) }
+{
+    let count = counted.sizes.contexts as u32;
+    let made = make_contexts(alloc, entry, &counted.lists, count)?;
+    let bases = bases_of(alloc, &counted.units, &made.functions)?;
+    let Expanded {
+        contexts,
+        functions,
+    } = made;
+    Ok(Layout {
+        contexts,
+        functions,
+        bases,
+    })
+}
+
+/// Whether there are more contexts or places than a net may have.
+fn is_too_many(sizes: Sizes) -> bool
+    ensures many { OnTrue result (AreTooMany sizes.contexts sizes.places) }
+    ensures contexts { OnFalse result (sizes.contexts ≤ most_contexts) }
+    ensures places { OnFalse result (sizes.places ≤ most_places) }
+{
+    sizes.contexts > 16384 || sizes.places > 65536
+}
+
 /// The contexts of a program and their places, laid out.
 ///
 /// `NeverReturns` and `TooMany` come in this order; the numbers of contexts and places are counted before
@@ -61,5 +94,18 @@ pub fn layout_of(alloc: Global, graphs: &Graphs) -> Result<Layout, NetFault>
     ensures bad { IfErr result (λ fault. (image : Image) (entry : ℕ) → HasGraphs image entry graphs.now →
         TellsFault image entry fault) }
 {
-    Err(NetFault::Memory)
+    let functions = graphs.graphs.as_slice();
+    if !functions[0].can_return {
+        return Err(NetFault::NeverReturns);
+    }
+    let counted = count_all(alloc, functions)?;
+    let sizes = counted.sizes;
+    if is_too_many(sizes) {
+        return Err(NetFault::TooMany {
+            contexts: sizes.contexts,
+            places: sizes.places,
+        });
+    }
+    let layout = lay_out(alloc, functions[0].entry, &counted)?;
+    Ok(layout)
 }

@@ -1,21 +1,65 @@
 //! The net of a program.
 
-ghost use Rattle.std.specs.Prelude.{ℕ, ◌≤◌, ◌^◌, length, List, IfErr, IfOk, OnOk};
+ghost use Rattle.std.specs.Prelude.{ℕ, suc, ◌≡◌, ◌≤◌, ◌^◌, length, slice_get, List, Some, IfErr, IfOk, OnOk};
 ghost use Rattle.elf_mips.specs.declared.image.Image.{Image};
 ghost use Rattle.elf_mips.specs.Segments.{code_at};
 ghost use Rattle.flow_net.specs.Nested.{IsNested};
+ghost use Rattle.flow_net.specs.declared.net.Context.{Context};
 ghost use Rattle.mips_decode.specs.State.{State};
 ghost use Rattle.net_model.specs.Functions.{CanReturn};
 ghost use Rattle.net_model.specs.Net.{IsNet};
 ghost use Rattle.net_model.specs.Runs.{GoesAlong, IsKeptRun};
+ghost use Rattle.call_contexts.specs.Instances.{HasLayout};
 ghost use Rattle.call_contexts.specs.Programs.{HasUnits, IsProgram, TellsFault};
 ghost use Rattle.call_contexts.specs.Sizes.{AreSizes, most_contexts, most_places};
 
+use crate::accesses::accesses_of;
+use crate::arcs::arcs_of;
 use crate::fault::NetFault;
-use flow_net::Net;
+use crate::instances::instances_of;
+use crate::layout::{Layout, layout_of};
+use crate::spots::places_of;
+use flow_net::{Context, Net};
 use loop_nest::Nests;
-use std::alloc::Global;
+use std::alloc::{AllocError, Global};
 use unit_graph::Graphs;
+use wcet_io::List;
+
+/// The contexts as a list.
+fn listed(alloc: Global, contexts: &[Context]) -> Result<List<Context>, AllocError>
+    ensures { IfOk result (λ (list : List Context). list ≡ contexts.now) }
+{
+    let mut list = List::new(alloc);
+    for context in contexts {
+        list.push(*context)?;
+    }
+    Ok(list)
+}
+
+/// The net of a program whose contexts are laid out.
+fn net_of(alloc: Global, graphs: &Graphs, nests: &Nests, layout: &Layout) -> Result<Net, AllocError>
+    requires { (image : Image) × (entry : ℕ) × HasLayout image entry graphs.now nests.now layout.now }
+    ensures net { IfOk result (λ net. (image : Image) (entry : ℕ) → HasLayout image entry graphs.now nests.now layout.now →
+        IsNet image entry net) }
+    ensures units { IfOk result (λ net. (image : Image) (entry : ℕ) → HasLayout image entry graphs.now nests.now layout.now →
+        HasUnits image net) }
+    ensures few { IfOk result (λ net. length net.arcs ≤ 2 ^ 25) }
+    ensures contexts { IfOk result (λ net. net.contexts ≡ layout.now.contexts.keys) }
+    ensures places { IfOk result (λ net. slice_get layout.now.bases.items (length layout.now.contexts.keys) ≡ Some (suc (length net.places))) }
+{
+    let made = instances_of(alloc, graphs, nests, layout)?;
+    let places = places_of(alloc, graphs, layout, &made.scopes)?;
+    let arcs = arcs_of(alloc, graphs, layout)?;
+    let accesses = accesses_of(alloc, graphs, layout, &places)?;
+    let contexts = listed(alloc, layout.contexts.as_slice())?;
+    Ok(Net {
+        contexts,
+        places: List::from_vec(places),
+        arcs: List::from_vec(arcs),
+        loops: made.instances,
+        accesses: List::from_vec(accesses),
+    })
+}
 
 /// The net of a program, from the graphs of its functions and their loops: each function has a context for each
 /// way by calls to it.
@@ -40,5 +84,7 @@ pub fn expand(alloc: Global, graphs: &Graphs, nests: &Nests) -> Result<Net, NetF
     ensures bad { IfErr result (λ fault. (image : Image) (entry : ℕ) → IsProgram image entry graphs.now nests.now →
         TellsFault image entry fault) }
 {
-    Err(NetFault::Memory)
+    let layout = layout_of(alloc, graphs)?;
+    let net = net_of(alloc, graphs, nests, &layout)?;
+    Ok(net)
 }

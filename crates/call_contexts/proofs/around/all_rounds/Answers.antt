@@ -1,5 +1,5 @@
 -- One function more.
-use Rattle.std.proofs.Common.{◌≡◌, ℕ, ◌+◌, ◌<◌, List, [], ◌∷◌, ◌++◌, length, slice_get, Some, refl, sym, ap, subst, ◌∙◌, arith}
+use Rattle.std.proofs.Common.{◌≡◌, ◌+◌, ◌<◌, List, length, slice_get, Some, refl, sym, ap, subst, ◌∙◌, arith}
 use Rattle.std.proofs.lemmas.Option.{slice_get_read, slice_get_within}
 use Rattle.loop_nest.specs.Nests.{IsNest}
 use Rattle.loop_nest.specs.Programs.{IsNestOf}
@@ -8,7 +8,6 @@ use Rattle.unit_graph.specs.declared.graph.Graph.{Graph}
 use Rattle.unit_graph.specs.declared.node.Unit.{Unit as Node}
 use Rattle.call_contexts.specs.Around.{AreNearest, AreOwn, AreUnitsOf}
 use Rattle.call_contexts.specs.Instances.{AreRounds}
-use Rattle.call_contexts.specs.declared.around.Rounds.{Rounds}
 use Rattle.call_contexts.proofs.Growing.{zip-at}
 use Rattle.call_contexts.proofs.Parts.{graph-in, graph-units, read-same}
 use Rattle.call_contexts.proofs.RoundLists.{rounds-more}

@@ -1,7 +1,6 @@
 -- One instance more.
-use Rattle.std.proofs.Common.{◌≡◌, ◌+◌, List, [], ◌∷◌, ◌++◌, Some, length, refl, slice_get, sym, subst}
+use Rattle.std.proofs.Common.{◌≡◌, ◌+◌, Some, length, refl, slice_get, sym, subst}
 use Rattle.std.proofs.lemmas.Option.{slice_get_read}
-use Rattle.flow_net.specs.declared.net.LoopInst.{LoopInst}
 use Rattle.call_contexts.specs.Instances.{AddsInstances}
 use Rattle.call_contexts.proofs.InstanceLists.{adds-more}
 use Rattle.call_contexts.proofs.instances.add_instances.Goals as goal

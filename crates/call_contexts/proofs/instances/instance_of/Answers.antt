@@ -1,5 +1,5 @@
 -- The header is a unit, and what lies round it is known.
-use Rattle.std.proofs.Common.{◌<◌, ℕ, Option, None, length, get_or, refl, subst, arith}
+use Rattle.std.proofs.Common.{◌<◌, ℕ, None, length, get_or, refl, subst, arith}
 use Rattle.std.proofs.lemmas.Option.{slice_get_within, slice_get-get_or}
 use Rattle.call_contexts.specs.Around.{IsNearestBy}
 use Rattle.call_contexts.proofs.AroundLists.{header-among}

@@ -1,8 +1,6 @@
 -- What was made step by step belongs to each net that is laid out so.
-use Rattle.std.proofs.Common.{◌≡◌, ℕ, List, length, sym, ap, subst, ◌∙◌}
-use Rattle.loop_nest.specs.declared.nest.Nests.{Nests}
+use Rattle.std.proofs.Common.{ℕ, List, length, sym, ap, subst, ◌∙◌}
 use Rattle.call_contexts.specs.Instances.{AreFirsts, AreInstances, AreRounds, AreScopes, HasRounds}
-use Rattle.call_contexts.specs.declared.around.Rounds.{Rounds}
 use Rattle.call_contexts.proofs.InstanceNet.{instances-net}
 use Rattle.call_contexts.proofs.instances.instances_of.Goals as goal
 

@@ -1,10 +1,10 @@
 -- One context more, whose function has as many loops.
-use Rattle.std.proofs.Common.{◌≡◌, ℕ, ◌+◌, ◌<◌, ◌≤◌, List, [], ◌∷◌, ◌++◌, length, get_or, slice_get, Some, sym, ap, subst, ◌∙◌, arith}
+use Rattle.std.proofs.Common.{◌≡◌, ℕ, ◌+◌, ◌<◌, List, [], ◌∷◌, ◌++◌, length, get_or, slice_get, Some, sym, ap, subst, ◌∙◌, arith}
 use Rattle.std.proofs.lemmas.Option.{get_or_from_slice_get, slice_get_within}
 use Rattle.loop_nest.specs.declared.nest.Loop.{Loop}
 use Rattle.call_contexts.specs.Instances.{AreFirsts}
 use Rattle.call_contexts.proofs.InstanceLists.{firsts-last, firsts-more, firsts-small}
-use Rattle.call_contexts.proofs.Parts.{PartsOf, parts-of, read-same}
+use Rattle.call_contexts.proofs.Parts.{parts-of, read-same}
 use Rattle.call_contexts.proofs.scopes.firsts_of.Goals as goal
 
 pub bounds-nests-function : goal.bounds-nests-function

@@ -1,10 +1,8 @@
 -- One context more: the scope round it, and those of its places.
-use Rattle.std.proofs.Common.{◌≡◌, ℕ, suc, ◌+◌, ◌^◌, ◌<◌, ◌≤◌, List, [], ◌∷◌, ◌++◌, Option, Some, length, map, get_or, slice_get, refl, sym, ap, subst, ◌∙◌, arith}
+use Rattle.std.proofs.Common.{◌≡◌, ℕ, suc, ◌+◌, ◌^◌, ◌<◌, ◌≤◌, List, [], ◌∷◌, ◌++◌, Option, Some, length, map, get_or, slice_get, sym, ap, subst, ◌∙◌, arith}
 use Rattle.std.specs.Prelude.{IfSome}
 use Rattle.std.proofs.lemmas.Option.{get_or_from_slice_get, slice_get-get_or, slice_get_within}
-use Rattle.elf_mips.specs.declared.image.Image.{Image}
-use Rattle.loop_nest.specs.declared.nest.Nests.{Nests}
-use Rattle.call_contexts.specs.Instances.{AreScopes, HasRounds, IsRoundContext, scope_by}
+use Rattle.call_contexts.specs.Instances.{AreScopes, IsRoundContext, scope_by}
 use Rattle.call_contexts.specs.declared.around.Rounds.{Rounds}
 use Rattle.call_contexts.proofs.InstanceLists.{firsts-small-all, scopes-more}
 use Rattle.call_contexts.proofs.Parts.{parts-of}

@@ -9,13 +9,13 @@ pub unreachable-requires : goal.unreachable-requires
 unreachable-requires c =
     let (number, made) = c.requires.made in
     position_there (is_same (made_by c.args.parent c.args.site c.args.callee)) c.args.self.now.contexts.keys number
-        (made_by c.args.parent c.args.site c.args.callee) made.there
-        ((is_same-decides (made_by c.args.parent c.args.site c.args.callee) (made_by c.args.parent c.args.site c.args.callee)).1 refl)
-        (sym c.get_index_of.ensures.index ∙ c.in-None.is)
+    (made_by c.args.parent c.args.site c.args.callee) made.there
+    ((is_same-decides (made_by c.args.parent c.args.site c.args.callee) (made_by c.args.parent c.args.site c.args.callee)).1 refl)
+    (sym c.get_index_of.ensures.index ∙ c.in-None.is)
 
 pub returns : goal.returns
 returns c =
     let (number, made) = c.requires.made in
     number_found c.args.self.now.contexts.keys (AllPairs-from_IsDistinct is_same-decides c.args.self.now.contexts.keys c.len.ensures.unique)
-        c.args.parent c.args.site c.args.callee number c.in-Some.number made
-        (sym c.get_index_of.ensures.index ∙ c.in-Some.is)
+    c.args.parent c.args.site c.args.callee number c.in-Some.number made
+    (sym c.get_index_of.ensures.index ∙ c.in-Some.is)
