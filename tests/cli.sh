@@ -20,6 +20,10 @@ cp return.elf ./-dashed.elf
 : >empty
 head -c 16777217 /dev/zero >too-long
 head -c 16777216 /dev/zero >longest
+head -c 16777216 /dev/zero | tr '\0' '#' >comment
+head -c 16777217 /dev/zero | tr '\0' '#' >too-long-comment
+printf 'memory = 20\n' >slow.toml
+printf 'speed = 1\n' >speed.toml
 mkdir folder
 
 passed=0
@@ -27,6 +31,9 @@ failed=0
 
 # What the program prints of a function that returns at once.
 once=$(printf 'bound 22\nreached 22\nvalue 1 1\nvalue 2 1\nleaf 1 1:22\nend')
+
+# The same where memory takes 20 cycles.
+twice=$(printf 'bound 42\nreached 42\nvalue 1 1\nvalue 2 1\nleaf 1 1:42\nend')
 
 # Counts a trial: its name, then what it gave, then what is wanted.
 check() {
@@ -53,6 +60,15 @@ trial "a file of the greatest length" 2 "refused not-elf 00000000" "" analyse lo
 trial "a missing file" 3 "" "read fault" analyse missing
 trial "a directory" 3 "" "read fault" analyse folder
 trial "no words" 1 "" "usage"
+trial "a bound" 0 "$once" "" bound return.elf
+trial "an empty profile" 0 "$once" "" analyse return.elf empty
+trial "a profile of the greatest length, one comment" 0 "$once" "" bound return.elf comment
+trial "a profile that is a byte too long" 2 "refused too-long 01000000" "" analyse return.elf too-long-comment
+trial "a profile" 0 "$twice" "" bound return.elf slow.toml
+trial "an unknown key" 2 "refused config-key speed" "" analyse return.elf speed.toml
+trial "a missing profile" 3 "" "read fault" analyse return.elf missing
+trial "a file that is too long, and a missing profile" 2 "refused too-long 01000000" "" analyse too-long missing
+trial "a word too many" 1 "" "usage" analyse return.elf empty empty
 trial "a command without its file" 1 "" "usage" analyse
 trial "a word for help" 1 "" "usage" --help
 trial "an unknown command" 1 "" "usage" analyze return.elf

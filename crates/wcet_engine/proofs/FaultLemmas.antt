@@ -1,330 +1,260 @@
--- The first fault of a file: what its reader, its clash and its program tell.
-use Rattle.std.proofs.Common.{◌≡◌, ℕ, ◌+◌, ◌<◌, ◌≤◌, List, [], ◌∷◌, length, All, Contains, Result, Ok, Err, IfOk, IfErr, refl, sym, subst, ◌∙◌, arith}
-use Rattle.cache_config.specs.Defaults.{HasDefaults}
+-- The first fault of the given files: what their lengths, the profile's text and the ELF file tell.
+use Rattle.std.proofs.Common.{◌≡◌, ℕ, ◌+◌, ◌<◌, ◌≤◌, ◌⊎◌, inl, inr, List, [], ◌∷◌, length, All, Contains, Option, Some, None, Result, Ok, Err, IfOk, IfErr, true, refl, sym, ap, subst, ◌∙◌, arith}
+use Rattle.cache_config.specs.Faults.{key_fault, profile_faults, range_fault}
 use Rattle.cache_config.specs.declared.profile.Profile.{Profile}
-use Rattle.elf_mips.specs.declared.fault.ElfKind.{ElfKind}
-use Rattle.elf_mips.specs.declared.fault.ElfKind.TheVariants as elf
-use Rattle.elf_mips.specs.declared.fault.ElfFault.{ElfFault}
-use Rattle.elf_mips.specs.declared.fault.ElfFault.TheVariants as elf_fault
-use Rattle.elf_mips.specs.declared.image.Image.{Image}
-use Rattle.elf_mips.specs.Faults.{IsClean, IsCleanBelow, Tells, offenders, order}
-use Rattle.elf_mips.specs.Faults.{IsFirstFault as IsFirstElfFault}
-use Rattle.elf_mips.specs.Image.{IsImage}
 use Rattle.wcet_engine.specs.declared.analysis.Analysis.{Analysis}
 use Rattle.wcet_engine.specs.declared.analysis.Refused.{Refused}
 use Rattle.wcet_engine.specs.declared.analysis.Refused.TheVariants.{Fault, Memory}
 use Rattle.wcet_engine.specs.declared.refusal.Refusal.{Refusal}
 use Rattle.wcet_engine.specs.declared.refusal.RefusalKind.{RefusalKind}
-use Rattle.wcet_engine.specs.declared.refusal.RefusalKind.TheVariants.{TooLong, Short, NotElf, NotThisKind, BadTable, BadSegment, BadSection, BadRecord, RegionClash, Unfollowed, WritableCode, UnknownWord, TransferInSlot, UnknownTarget, LinkRegister, Recursion, Irreducible, NoBound, NeverReturns, BoundTooLarge}
+use Rattle.wcet_engine.specs.declared.refusal.RefusalKind.TheVariants.{TooLong, ConfigText, ConfigKey, ConfigRange, Short, NotElf, NotThisKind, BadTable, BadSegment, BadSection, BadRecord, NoSymbol, RegionClash, Unbuilt, Unfollowed, WritableCode, UnknownWord, TransferInSlot, UnknownTarget, LinkRegister, Recursion, Irreducible, NoBound, NeverReturns, BoundTooLarge}
 use Rattle.wcet_engine.specs.declared.refusal.Spot.{Spot}
 use Rattle.wcet_engine.specs.declared.refusal.Spot.TheVariants.{Number, Key}
-use Rattle.wcet_engine.specs.Clash.{IsClash, IsLeast}
-use Rattle.wcet_engine.specs.Faults.{HasNoFault, IsAnalysis, IsFirstFault, IsLess, OfFile, Offends, OffendsAt, TellsFault, file_limit, refused_of}
-use Rattle.wcet_engine.specs.ProgramFaults.{IsAnalysisOf, IsFirstFaultIn, OffendsIn, TellsFaultIn}
-use Rattle.wcet_engine.specs.Refusals.{at_number, kind_of, rank, says_at}
-use Rattle.wcet_engine.proofs.SameFiles.{clash-same, plain-same, same-image}
-use Rattle.wcet_engine.proofs.SameImage.{program-same}
+use Rattle.wcet_engine.specs.Faults.{GivesProfile, IsAnalysis, IsFirstFault, IsKeyFault, IsLess, IsNoDocument, IsRangeFault, OfProfile, Offends, OffendsAt, TellsFault}
+use Rattle.wcet_engine.specs.FileFaults.{IsAnalysisFor, IsFirstFaultOf, OffendsOf, TellsFaultOf}
+use Rattle.wcet_engine.specs.Given.{Fits, FitsText, Given, IsLong, IsLongText, file_limit}
+use Rattle.wcet_engine.specs.Refusals.{at_number, rank, says_at}
+use Rattle.wcet_engine.proofs.FileFaultLemmas.{file-same}
+use Rattle.wcet_engine.proofs.SameFiles.{same-members, same-profile}
 
--- An empty list contains nothing.
-nothing : (places : List ℕ) (place : ℕ) → places ≡ [] → Contains places place → ⊥
-nothing [] place none here = absurd (omega (arith, here.1))
-nothing (other ∷ places) place none here = cc
+not-long : (config : Option (List ℕ)) → FitsText config → IsLongText config → ⊥
+not-long None fits long = long
+not-long (Some text) fits long = omega (arith, fits, long)
 
--- No place of a list is below its least one.
-none_below : (places : List ℕ) (least place : ℕ) → All (λ other. least ≤ other) places → place < least →
-    Contains places place → ⊥
-none_below places least place all below here =
-    let above = all here.0 place here.1 in absurd (omega (arith, above, here.2, below))
+pub no-long : (files : Given) → Fits files → IsLong files → ⊥
+no-long files fits (inl long) = let low = fits.elf in omega (arith, low, long)
+no-long files fits (inr long) = not-long files.config fits.config long
 
--- A file that its reader found no fault in, its image, and the profile.
-pub record IsReadAs (file : List ℕ) (image : Image) (profile : Profile) : Type 0 where
-  pub fits : length file ≤ file_limit
-  pub clean : IsClean file
-  pub read : IsImage file image
-  pub given : HasDefaults profile
+-- A text that gives a profile has no fault.
+has-document : (config : Option (List ℕ)) (profile : Profile) → GivesProfile config profile → IsNoDocument config → ⊥
+has-document None profile gives none = none
+has-document (Some text) profile gives none = none gives.members gives.means
 
--- A clash in the file is one of this image and profile.
-clash-in : (file : List ℕ) (image : Image) (profile : Profile) (place : ℕ) → IsReadAs file image profile →
-    OffendsAt file RegionClash place → IsClash image profile place
-clash-in file image profile place is offends =
-    clash-same offends.image image offends.profile profile place (same-image file offends.image image offends.read is.read)
-    (plain-same offends.profile profile offends.given is.given) offends.says
+no-key : (config : Option (List ℕ)) (profile : Profile) (path : List ℕ) → GivesProfile config profile → IsKeyFault config path → ⊥
+no-key None profile path gives fault = fault
+no-key (Some text) profile path gives fault =
+    let members = same-members text fault.members gives.members fault.means gives.means in
+    let none : profile_faults fault.members ≡ [] = ap profile_faults members ∙ gives.faultless in
+    let here = subst (λ faults. Contains faults (key_fault path)) none fault.here in
+    omega (arith, here.1)
 
--- A fault of a program in the file is one of this image and profile.
-program-in : (file : List ℕ) (image : Image) (profile : Profile) (kind : RefusalKind) (place : ℕ) → IsReadAs file image profile →
-    OfFile file (λ other given. OffendsIn other given other.entry kind place) → OffendsIn image profile image.entry kind place
-program-in file image profile kind place is offends =
-    subst (λ (entry : ℕ). OffendsIn image profile entry kind place) (offends.read.entry ∙ sym is.read.entry)
-    (program-same offends.image image offends.profile profile offends.image.entry kind place
-    (same-image file offends.image image offends.read is.read)
-    (plain-same offends.profile profile offends.given is.given).costs offends.says)
+no-range : (config : Option (List ℕ)) (profile : Profile) (path : List ℕ) → GivesProfile config profile → IsRangeFault config path → ⊥
+no-range None profile path gives fault = fault
+no-range (Some text) profile path gives fault =
+    let members = same-members text fault.members gives.members fault.means gives.means in
+    let none : profile_faults fault.members ≡ [] = ap profile_faults members ∙ gives.faultless in
+    let here = subst (λ faults. Contains faults (range_fault path)) none fault.here in
+    omega (arith, here.1)
 
--- No kind before region clashes has an offender in such a file.
-none-read : (file : List ℕ) (image : Image) (profile : Profile) → IsReadAs file image profile →
-    (kind : RefusalKind) (spot : Spot) → rank kind < 12 → Offends file kind spot → ⊥
-none-read file image profile is kind (Key path) earlier offends = offends
-none-read file image profile is TooLong (Number place) earlier offends = let fits = is.fits in absurd (omega (arith, offends.0, fits))
-none-read file image profile is Short (Number place) earlier offends = nothing _ place (is.clean elf.Short) offends
-none-read file image profile is NotElf (Number place) earlier offends = nothing _ place (is.clean elf.NotElf) offends
-none-read file image profile is NotThisKind (Number place) earlier offends = nothing _ place (is.clean elf.NotThisKind) offends
-none-read file image profile is BadTable (Number place) earlier offends = nothing _ place (is.clean elf.BadTable) offends
-none-read file image profile is BadSegment (Number place) earlier offends = nothing _ place (is.clean elf.BadSegment) offends
-none-read file image profile is BadSection (Number place) earlier offends = nothing _ place (is.clean elf.BadSection) offends
-none-read file image profile is BadRecord (Number place) earlier offends = nothing _ place (is.clean elf.BadRecord) offends
-none-read file image profile is RegionClash (Number place) earlier offends = absurd (omega (arith, earlier))
-none-read file image profile is Unfollowed (Number place) earlier offends = absurd (omega (arith, earlier))
-none-read file image profile is WritableCode (Number place) earlier offends = absurd (omega (arith, earlier))
-none-read file image profile is UnknownWord (Number place) earlier offends = absurd (omega (arith, earlier))
-none-read file image profile is TransferInSlot (Number place) earlier offends = absurd (omega (arith, earlier))
-none-read file image profile is UnknownTarget (Number place) earlier offends = absurd (omega (arith, earlier))
-none-read file image profile is LinkRegister (Number place) earlier offends = absurd (omega (arith, earlier))
-none-read file image profile is Recursion (Number place) earlier offends = absurd (omega (arith, earlier))
-none-read file image profile is Irreducible (Number place) earlier offends = absurd (omega (arith, earlier))
-none-read file image profile is NoBound (Number place) earlier offends = absurd (omega (arith, earlier))
-none-read file image profile is NeverReturns (Number place) earlier offends = absurd (omega (arith, earlier))
-none-read file image profile is BoundTooLarge (Number place) earlier offends = absurd (omega (arith, earlier))
+-- No kind before those of the ELF file has an offender where the files are within their limits and give a profile.
+none-config : (files : Given) (profile : Profile) → Fits files → GivesProfile files.config profile →
+    (kind : RefusalKind) (spot : Spot) → rank kind < 4 → Offends files kind spot → ⊥
+none-config files profile fits gives TooLong (Number place) earlier offends = no-long files fits offends.1
+none-config files profile fits gives ConfigText (Number place) earlier offends = has-document files.config profile gives offends.1
+none-config files profile fits gives ConfigKey (Number place) earlier offends = offends
+none-config files profile fits gives ConfigRange (Number place) earlier offends = offends
+none-config files profile fits gives TooLong (Key path) earlier offends = offends
+none-config files profile fits gives ConfigText (Key path) earlier offends = offends
+none-config files profile fits gives ConfigKey (Key path) earlier offends = no-key files.config profile path gives offends
+none-config files profile fits gives ConfigRange (Key path) earlier offends = no-range files.config profile path gives offends
+none-config files profile fits gives Short spot earlier offends = absurd (omega (arith, earlier))
+none-config files profile fits gives NotElf spot earlier offends = absurd (omega (arith, earlier))
+none-config files profile fits gives NotThisKind spot earlier offends = absurd (omega (arith, earlier))
+none-config files profile fits gives BadTable spot earlier offends = absurd (omega (arith, earlier))
+none-config files profile fits gives BadSegment spot earlier offends = absurd (omega (arith, earlier))
+none-config files profile fits gives BadSection spot earlier offends = absurd (omega (arith, earlier))
+none-config files profile fits gives BadRecord spot earlier offends = absurd (omega (arith, earlier))
+none-config files profile fits gives NoSymbol spot earlier offends = absurd (omega (arith, earlier))
+none-config files profile fits gives RegionClash spot earlier offends = absurd (omega (arith, earlier))
+none-config files profile fits gives Unbuilt spot earlier offends = absurd (omega (arith, earlier))
+none-config files profile fits gives Unfollowed spot earlier offends = absurd (omega (arith, earlier))
+none-config files profile fits gives WritableCode spot earlier offends = absurd (omega (arith, earlier))
+none-config files profile fits gives UnknownWord spot earlier offends = absurd (omega (arith, earlier))
+none-config files profile fits gives TransferInSlot spot earlier offends = absurd (omega (arith, earlier))
+none-config files profile fits gives UnknownTarget spot earlier offends = absurd (omega (arith, earlier))
+none-config files profile fits gives LinkRegister spot earlier offends = absurd (omega (arith, earlier))
+none-config files profile fits gives Recursion spot earlier offends = absurd (omega (arith, earlier))
+none-config files profile fits gives Irreducible spot earlier offends = absurd (omega (arith, earlier))
+none-config files profile fits gives NoBound spot earlier offends = absurd (omega (arith, earlier))
+none-config files profile fits gives NeverReturns spot earlier offends = absurd (omega (arith, earlier))
+none-config files profile fits gives BoundTooLarge spot earlier offends = absurd (omega (arith, earlier))
 
--- Nor has a kind before those of the program, where there is no clash; and the program's kinds have those that it tells.
-none-before : (file : List ℕ) (image : Image) (profile : Profile) (limit : ℕ) → IsReadAs file image profile →
-    ((place : ℕ) → IsClash image profile place → ⊥) →
-    ((kind : RefusalKind) (place : ℕ) → rank kind < limit → OffendsIn image profile image.entry kind place → ⊥) →
-    (kind : RefusalKind) (spot : Spot) → rank kind < limit → Offends file kind spot → ⊥
-none-before file image profile limit is apart none kind (Key path) earlier offends = offends
-none-before file image profile limit is apart none TooLong (Number place) earlier offends =
-    none-read file image profile is TooLong (Number place) (omega arith) offends
-none-before file image profile limit is apart none Short (Number place) earlier offends =
-    none-read file image profile is Short (Number place) (omega arith) offends
-none-before file image profile limit is apart none NotElf (Number place) earlier offends =
-    none-read file image profile is NotElf (Number place) (omega arith) offends
-none-before file image profile limit is apart none NotThisKind (Number place) earlier offends =
-    none-read file image profile is NotThisKind (Number place) (omega arith) offends
-none-before file image profile limit is apart none BadTable (Number place) earlier offends =
-    none-read file image profile is BadTable (Number place) (omega arith) offends
-none-before file image profile limit is apart none BadSegment (Number place) earlier offends =
-    none-read file image profile is BadSegment (Number place) (omega arith) offends
-none-before file image profile limit is apart none BadSection (Number place) earlier offends =
-    none-read file image profile is BadSection (Number place) (omega arith) offends
-none-before file image profile limit is apart none BadRecord (Number place) earlier offends =
-    none-read file image profile is BadRecord (Number place) (omega arith) offends
-none-before file image profile limit is apart none RegionClash (Number place) earlier offends = apart place (clash-in file image profile place is offends)
-none-before file image profile limit is apart none Unfollowed (Number place) earlier offends =
-    none Unfollowed place earlier (program-in file image profile Unfollowed place is offends)
-none-before file image profile limit is apart none WritableCode (Number place) earlier offends =
-    none WritableCode place earlier (program-in file image profile WritableCode place is offends)
-none-before file image profile limit is apart none UnknownWord (Number place) earlier offends =
-    none UnknownWord place earlier (program-in file image profile UnknownWord place is offends)
-none-before file image profile limit is apart none TransferInSlot (Number place) earlier offends =
-    none TransferInSlot place earlier (program-in file image profile TransferInSlot place is offends)
-none-before file image profile limit is apart none UnknownTarget (Number place) earlier offends =
-    none UnknownTarget place earlier (program-in file image profile UnknownTarget place is offends)
-none-before file image profile limit is apart none LinkRegister (Number place) earlier offends =
-    none LinkRegister place earlier (program-in file image profile LinkRegister place is offends)
-none-before file image profile limit is apart none Recursion (Number place) earlier offends =
-    none Recursion place earlier (program-in file image profile Recursion place is offends)
-none-before file image profile limit is apart none Irreducible (Number place) earlier offends =
-    none Irreducible place earlier (program-in file image profile Irreducible place is offends)
-none-before file image profile limit is apart none NoBound (Number place) earlier offends =
-    none NoBound place earlier (program-in file image profile NoBound place is offends)
-none-before file image profile limit is apart none NeverReturns (Number place) earlier offends =
-    none NeverReturns place earlier (program-in file image profile NeverReturns place is offends)
-none-before file image profile limit is apart none BoundTooLarge (Number place) earlier offends =
-    none BoundTooLarge place earlier (program-in file image profile BoundTooLarge place is offends)
+-- What is said of the profile is said of each that is given.
+of-profile : (files : Given) (profile : Profile) (kind : RefusalKind) (place : ℕ) → GivesProfile files.config profile →
+    OfProfile files (λ other. OffendsOf files.elf other kind place) → OffendsOf files.elf profile kind place
+of-profile files profile kind place gives offends =
+    file-same files.elf offends.profile profile kind place (same-profile files.config offends.profile profile offends.gives gives) offends.says
 
--- The least common address is the file's first fault.
-pub first-clash : (file : List ℕ) (image : Image) (profile : Profile) (place : ℕ) → IsReadAs file image profile →
-    IsLeast (IsClash image profile) place → IsFirstFault file (at_number RegionClash place)
-first-clash file image profile place is least = record {
-  offends = record { image = image; read = is.read; profile = profile; given = is.given; says = least.says };
-  first = none-read file image profile is;
-  least = λ spot less offends. lesser spot less offends;
-} where
-  lesser : (spot : Spot) → IsLess spot (Number place) → Offends file RegionClash spot → ⊥
-  lesser (Number other) less offends = least.least other less (clash-in file image profile other is offends)
-  lesser (Key path) less offends = offends
+-- Of the ELF file's kinds those have an offender that it has under the profile.
+none-until : (files : Given) (profile : Profile) (limit : ℕ) → Fits files → GivesProfile files.config profile →
+    ((kind : RefusalKind) (place : ℕ) → rank kind < limit → OffendsOf files.elf profile kind place → ⊥) →
+    (kind : RefusalKind) (spot : Spot) → rank kind < limit → Offends files kind spot → ⊥
+none-until files profile limit fits gives none TooLong spot earlier offends =
+    none-config files profile fits gives TooLong spot (omega arith) offends
+none-until files profile limit fits gives none ConfigText spot earlier offends =
+    none-config files profile fits gives ConfigText spot (omega arith) offends
+none-until files profile limit fits gives none ConfigKey spot earlier offends =
+    none-config files profile fits gives ConfigKey spot (omega arith) offends
+none-until files profile limit fits gives none ConfigRange spot earlier offends =
+    none-config files profile fits gives ConfigRange spot (omega arith) offends
+none-until files profile limit fits gives none Short (Key path) earlier offends = offends
+none-until files profile limit fits gives none Short (Number place) earlier offends =
+    none Short place earlier (of-profile files profile Short place gives offends)
+none-until files profile limit fits gives none NotElf (Key path) earlier offends = offends
+none-until files profile limit fits gives none NotElf (Number place) earlier offends =
+    none NotElf place earlier (of-profile files profile NotElf place gives offends)
+none-until files profile limit fits gives none NotThisKind (Key path) earlier offends = offends
+none-until files profile limit fits gives none NotThisKind (Number place) earlier offends =
+    none NotThisKind place earlier (of-profile files profile NotThisKind place gives offends)
+none-until files profile limit fits gives none BadTable (Key path) earlier offends = offends
+none-until files profile limit fits gives none BadTable (Number place) earlier offends =
+    none BadTable place earlier (of-profile files profile BadTable place gives offends)
+none-until files profile limit fits gives none BadSegment (Key path) earlier offends = offends
+none-until files profile limit fits gives none BadSegment (Number place) earlier offends =
+    none BadSegment place earlier (of-profile files profile BadSegment place gives offends)
+none-until files profile limit fits gives none BadSection (Key path) earlier offends = offends
+none-until files profile limit fits gives none BadSection (Number place) earlier offends =
+    none BadSection place earlier (of-profile files profile BadSection place gives offends)
+none-until files profile limit fits gives none BadRecord (Key path) earlier offends = offends
+none-until files profile limit fits gives none BadRecord (Number place) earlier offends =
+    none BadRecord place earlier (of-profile files profile BadRecord place gives offends)
+none-until files profile limit fits gives none NoSymbol (Key path) earlier offends = offends
+none-until files profile limit fits gives none NoSymbol (Number place) earlier offends =
+    none NoSymbol place earlier (of-profile files profile NoSymbol place gives offends)
+none-until files profile limit fits gives none RegionClash (Key path) earlier offends = offends
+none-until files profile limit fits gives none RegionClash (Number place) earlier offends =
+    none RegionClash place earlier (of-profile files profile RegionClash place gives offends)
+none-until files profile limit fits gives none Unbuilt (Key path) earlier offends = offends
+none-until files profile limit fits gives none Unbuilt (Number place) earlier offends =
+    none Unbuilt place earlier (of-profile files profile Unbuilt place gives offends)
+none-until files profile limit fits gives none Unfollowed (Key path) earlier offends = offends
+none-until files profile limit fits gives none Unfollowed (Number place) earlier offends =
+    none Unfollowed place earlier (of-profile files profile Unfollowed place gives offends)
+none-until files profile limit fits gives none WritableCode (Key path) earlier offends = offends
+none-until files profile limit fits gives none WritableCode (Number place) earlier offends =
+    none WritableCode place earlier (of-profile files profile WritableCode place gives offends)
+none-until files profile limit fits gives none UnknownWord (Key path) earlier offends = offends
+none-until files profile limit fits gives none UnknownWord (Number place) earlier offends =
+    none UnknownWord place earlier (of-profile files profile UnknownWord place gives offends)
+none-until files profile limit fits gives none TransferInSlot (Key path) earlier offends = offends
+none-until files profile limit fits gives none TransferInSlot (Number place) earlier offends =
+    none TransferInSlot place earlier (of-profile files profile TransferInSlot place gives offends)
+none-until files profile limit fits gives none UnknownTarget (Key path) earlier offends = offends
+none-until files profile limit fits gives none UnknownTarget (Number place) earlier offends =
+    none UnknownTarget place earlier (of-profile files profile UnknownTarget place gives offends)
+none-until files profile limit fits gives none LinkRegister (Key path) earlier offends = offends
+none-until files profile limit fits gives none LinkRegister (Number place) earlier offends =
+    none LinkRegister place earlier (of-profile files profile LinkRegister place gives offends)
+none-until files profile limit fits gives none Recursion (Key path) earlier offends = offends
+none-until files profile limit fits gives none Recursion (Number place) earlier offends =
+    none Recursion place earlier (of-profile files profile Recursion place gives offends)
+none-until files profile limit fits gives none Irreducible (Key path) earlier offends = offends
+none-until files profile limit fits gives none Irreducible (Number place) earlier offends =
+    none Irreducible place earlier (of-profile files profile Irreducible place gives offends)
+none-until files profile limit fits gives none NoBound (Key path) earlier offends = offends
+none-until files profile limit fits gives none NoBound (Number place) earlier offends =
+    none NoBound place earlier (of-profile files profile NoBound place gives offends)
+none-until files profile limit fits gives none NeverReturns (Key path) earlier offends = offends
+none-until files profile limit fits gives none NeverReturns (Number place) earlier offends =
+    none NeverReturns place earlier (of-profile files profile NeverReturns place gives offends)
+none-until files profile limit fits gives none BoundTooLarge (Key path) earlier offends = offends
+none-until files profile limit fits gives none BoundTooLarge (Number place) earlier offends =
+    none BoundTooLarge place earlier (of-profile files profile BoundTooLarge place gives offends)
 
--- The program's first fault is the file's first fault.
-program-offends : (file : List ℕ) (image : Image) (profile : Profile) (kind : RefusalKind) (place : ℕ) → IsReadAs file image profile →
-    OffendsIn image profile image.entry kind place → OffendsAt file kind place
-program-offends file image profile TooLong place is offends = absurd offends
-program-offends file image profile Short place is offends = absurd offends
-program-offends file image profile NotElf place is offends = absurd offends
-program-offends file image profile NotThisKind place is offends = absurd offends
-program-offends file image profile BadTable place is offends = absurd offends
-program-offends file image profile BadSegment place is offends = absurd offends
-program-offends file image profile BadSection place is offends = absurd offends
-program-offends file image profile BadRecord place is offends = absurd offends
-program-offends file image profile RegionClash place is offends = absurd offends
-program-offends file image profile Unfollowed place is offends =
-    record { image = image; read = is.read; profile = profile; given = is.given; says = offends }
-program-offends file image profile WritableCode place is offends =
-    record { image = image; read = is.read; profile = profile; given = is.given; says = offends }
-program-offends file image profile UnknownWord place is offends =
-    record { image = image; read = is.read; profile = profile; given = is.given; says = offends }
-program-offends file image profile TransferInSlot place is offends =
-    record { image = image; read = is.read; profile = profile; given = is.given; says = offends }
-program-offends file image profile UnknownTarget place is offends =
-    record { image = image; read = is.read; profile = profile; given = is.given; says = offends }
-program-offends file image profile LinkRegister place is offends =
-    record { image = image; read = is.read; profile = profile; given = is.given; says = offends }
-program-offends file image profile Recursion place is offends =
-    record { image = image; read = is.read; profile = profile; given = is.given; says = offends }
-program-offends file image profile Irreducible place is offends =
-    record { image = image; read = is.read; profile = profile; given = is.given; says = offends }
-program-offends file image profile NoBound place is offends =
-    record { image = image; read = is.read; profile = profile; given = is.given; says = offends }
-program-offends file image profile NeverReturns place is offends =
-    record { image = image; read = is.read; profile = profile; given = is.given; says = offends }
-program-offends file image profile BoundTooLarge place is offends =
-    record { image = image; read = is.read; profile = profile; given = is.given; says = offends }
+-- An offender of the ELF file under the profile is one of the files.
+file-offends : (files : Given) (profile : Profile) (kind : RefusalKind) (place : ℕ) → GivesProfile files.config profile →
+    OffendsOf files.elf profile kind place → OffendsAt files kind place
+file-offends files profile TooLong place gives offends = absurd offends.says
+file-offends files profile ConfigText place gives offends = absurd offends.says
+file-offends files profile ConfigKey place gives offends = absurd offends.says
+file-offends files profile ConfigRange place gives offends = absurd offends.says
+file-offends files profile Short place gives offends = record { profile = profile; gives = gives; says = offends }
+file-offends files profile NotElf place gives offends = record { profile = profile; gives = gives; says = offends }
+file-offends files profile NotThisKind place gives offends = record { profile = profile; gives = gives; says = offends }
+file-offends files profile BadTable place gives offends = record { profile = profile; gives = gives; says = offends }
+file-offends files profile BadSegment place gives offends = record { profile = profile; gives = gives; says = offends }
+file-offends files profile BadSection place gives offends = record { profile = profile; gives = gives; says = offends }
+file-offends files profile BadRecord place gives offends = record { profile = profile; gives = gives; says = offends }
+file-offends files profile NoSymbol place gives offends = record { profile = profile; gives = gives; says = offends }
+file-offends files profile RegionClash place gives offends = record { profile = profile; gives = gives; says = offends }
+file-offends files profile Unbuilt place gives offends = record { profile = profile; gives = gives; says = offends }
+file-offends files profile Unfollowed place gives offends = record { profile = profile; gives = gives; says = offends }
+file-offends files profile WritableCode place gives offends = record { profile = profile; gives = gives; says = offends }
+file-offends files profile UnknownWord place gives offends = record { profile = profile; gives = gives; says = offends }
+file-offends files profile TransferInSlot place gives offends = record { profile = profile; gives = gives; says = offends }
+file-offends files profile UnknownTarget place gives offends = record { profile = profile; gives = gives; says = offends }
+file-offends files profile LinkRegister place gives offends = record { profile = profile; gives = gives; says = offends }
+file-offends files profile Recursion place gives offends = record { profile = profile; gives = gives; says = offends }
+file-offends files profile Irreducible place gives offends = record { profile = profile; gives = gives; says = offends }
+file-offends files profile NoBound place gives offends = record { profile = profile; gives = gives; says = offends }
+file-offends files profile NeverReturns place gives offends = record { profile = profile; gives = gives; says = offends }
+file-offends files profile BoundTooLarge place gives offends = record { profile = profile; gives = gives; says = offends }
 
--- Of a kind of the program, an offender in the file is one in the program.
-of-program : (file : List ℕ) (image : Image) (profile : Profile) (kind : RefusalKind) (place other : ℕ) → IsReadAs file image profile →
-    OffendsIn image profile image.entry kind place → OffendsAt file kind other → OffendsIn image profile image.entry kind other
-of-program file image profile TooLong place other is here offends = absurd here
-of-program file image profile Short place other is here offends = absurd here
-of-program file image profile NotElf place other is here offends = absurd here
-of-program file image profile NotThisKind place other is here offends = absurd here
-of-program file image profile BadTable place other is here offends = absurd here
-of-program file image profile BadSegment place other is here offends = absurd here
-of-program file image profile BadSection place other is here offends = absurd here
-of-program file image profile BadRecord place other is here offends = absurd here
-of-program file image profile RegionClash place other is here offends = absurd here
-of-program file image profile Unfollowed place other is here offends = program-in file image profile Unfollowed other is offends
-of-program file image profile WritableCode place other is here offends = program-in file image profile WritableCode other is offends
-of-program file image profile UnknownWord place other is here offends = program-in file image profile UnknownWord other is offends
-of-program file image profile TransferInSlot place other is here offends = program-in file image profile TransferInSlot other is offends
-of-program file image profile UnknownTarget place other is here offends = program-in file image profile UnknownTarget other is offends
-of-program file image profile LinkRegister place other is here offends = program-in file image profile LinkRegister other is offends
-of-program file image profile Recursion place other is here offends = program-in file image profile Recursion other is offends
-of-program file image profile Irreducible place other is here offends = program-in file image profile Irreducible other is offends
-of-program file image profile NoBound place other is here offends = program-in file image profile NoBound other is offends
-of-program file image profile NeverReturns place other is here offends = program-in file image profile NeverReturns other is offends
-of-program file image profile BoundTooLarge place other is here offends = program-in file image profile BoundTooLarge other is offends
+offends-file : (files : Given) (profile : Profile) (kind : RefusalKind) (place other : ℕ) → GivesProfile files.config profile →
+    OffendsOf files.elf profile kind place → OffendsAt files kind other → OffendsOf files.elf profile kind other
+offends-file files profile TooLong place other gives here offends = absurd here.says
+offends-file files profile ConfigText place other gives here offends = absurd here.says
+offends-file files profile ConfigKey place other gives here offends = absurd here.says
+offends-file files profile ConfigRange place other gives here offends = absurd here.says
+offends-file files profile Short place other gives here offends = of-profile files profile Short other gives offends
+offends-file files profile NotElf place other gives here offends = of-profile files profile NotElf other gives offends
+offends-file files profile NotThisKind place other gives here offends = of-profile files profile NotThisKind other gives offends
+offends-file files profile BadTable place other gives here offends = of-profile files profile BadTable other gives offends
+offends-file files profile BadSegment place other gives here offends = of-profile files profile BadSegment other gives offends
+offends-file files profile BadSection place other gives here offends = of-profile files profile BadSection other gives offends
+offends-file files profile BadRecord place other gives here offends = of-profile files profile BadRecord other gives offends
+offends-file files profile NoSymbol place other gives here offends = of-profile files profile NoSymbol other gives offends
+offends-file files profile RegionClash place other gives here offends = of-profile files profile RegionClash other gives offends
+offends-file files profile Unbuilt place other gives here offends = of-profile files profile Unbuilt other gives offends
+offends-file files profile Unfollowed place other gives here offends = of-profile files profile Unfollowed other gives offends
+offends-file files profile WritableCode place other gives here offends = of-profile files profile WritableCode other gives offends
+offends-file files profile UnknownWord place other gives here offends = of-profile files profile UnknownWord other gives offends
+offends-file files profile TransferInSlot place other gives here offends = of-profile files profile TransferInSlot other gives offends
+offends-file files profile UnknownTarget place other gives here offends = of-profile files profile UnknownTarget other gives offends
+offends-file files profile LinkRegister place other gives here offends = of-profile files profile LinkRegister other gives offends
+offends-file files profile Recursion place other gives here offends = of-profile files profile Recursion other gives offends
+offends-file files profile Irreducible place other gives here offends = of-profile files profile Irreducible other gives offends
+offends-file files profile NoBound place other gives here offends = of-profile files profile NoBound other gives offends
+offends-file files profile NeverReturns place other gives here offends = of-profile files profile NeverReturns other gives offends
+offends-file files profile BoundTooLarge place other gives here offends = of-profile files profile BoundTooLarge other gives offends
 
-first-program : (file : List ℕ) (image : Image) (profile : Profile) (refusal : Refusal) (place : ℕ) → refusal.spot ≡ Number place → IsReadAs file image profile →
-    ((spot : ℕ) → IsClash image profile spot → ⊥) → IsFirstFaultIn image profile image.entry refusal.kind place → IsFirstFault file refusal
-first-program file image profile refusal place same is apart told = record {
-  offends = subst (Offends file refusal.kind) (sym same) (program-offends file image profile refusal.kind place is told.offends);
-  first = none-before file image profile (rank refusal.kind) is apart told.first;
+first-file : (files : Given) (profile : Profile) (refusal : Refusal) (place : ℕ) → refusal.spot ≡ Number place → Fits files →
+    GivesProfile files.config profile → IsFirstFaultOf files.elf profile refusal.kind place → IsFirstFault files refusal
+first-file files profile refusal place same fits gives told = record {
+  offends = subst (Offends files refusal.kind) (sym same) (file-offends files profile refusal.kind place gives told.offends);
+  first = none-until files profile (rank refusal.kind) fits gives told.first;
   least = λ spot less offends. lesser spot (subst (IsLess spot) same less) offends;
 } where
-  lesser : (spot : Spot) → IsLess spot (Number place) → Offends file refusal.kind spot → ⊥
-  lesser (Number other) less offends = told.least other less (of-program file image profile refusal.kind place other is told.offends offends)
-  lesser (Key path) less offends = offends
+  lesser : (spot : Spot) → IsLess spot (Number place) → Offends files refusal.kind spot → ⊥
+  lesser (Number other) less offends = told.least other less (offends-file files profile refusal.kind place other gives told.offends offends)
+  lesser (Key path) less offends = less
 
 by-spot : (Says : ℕ → Type 0) (spot : Spot) → says_at Says spot → (place : ℕ) × (spot ≡ Number place) × Says place
 by-spot Says (Number place) says = (place, refl, says)
 by-spot Says (Key path) says = absurd says
 
-tells-program : (file : List ℕ) (image : Image) (profile : Profile) (told : Refused) → IsReadAs file image profile →
-    ((place : ℕ) → IsClash image profile place → ⊥) → TellsFaultIn image profile image.entry told → TellsFault file told
-tells-program file image profile (Fault refusal) is apart told =
-    let at = by-spot (IsFirstFaultIn image profile image.entry refusal.kind) refusal.spot told in
-    first-program file image profile refusal at.0 at.1 is apart at.2
-tells-program file image profile Memory is apart told = tt
+pub tells-file : (files : Given) (profile : Profile) (told : Refused) → Fits files → GivesProfile files.config profile →
+    TellsFaultOf files.elf profile told → TellsFault files told
+tells-file files profile (Fault refusal) fits gives told =
+    let at = by-spot (IsFirstFaultOf files.elf profile refusal.kind) refusal.spot told in
+    first-file files profile refusal at.0 at.1 fits gives at.2
+tells-file files profile Memory fits gives told = tt
 
--- A file whose program has no fault has none.
-is-analysis : (file : List ℕ) (image : Image) (profile : Profile) (analysis : Analysis) → IsReadAs file image profile →
-    ((place : ℕ) → IsClash image profile place → ⊥) → IsAnalysisOf image profile image.entry analysis → IsAnalysis file analysis
-is-analysis file image profile analysis is apart of = record {
+-- So the answer of the ELF file is one of the files.
+pub answers-refused : (files : Given) (profile : Profile) (result : Result Analysis Refused) → Fits files → GivesProfile files.config profile →
+    IfErr result (TellsFaultOf files.elf profile) → IfErr result (TellsFault files)
+answers-refused files profile (Ok analysis) fits gives told = told
+answers-refused files profile (Err refused) fits gives told = tells-file files profile refused fits gives told
+
+is-analysis : (files : Given) (profile : Profile) (analysis : Analysis) → Fits files → GivesProfile files.config profile →
+    IsAnalysisFor files.elf profile analysis → IsAnalysis files analysis
+is-analysis files profile analysis fits gives of = record {
   faultless = λ kind spot.
-      none-before file image profile (rank kind + 1) is apart (λ other place earlier offends. of.faultless other place offends) kind spot (omega arith);
-  program = record { image = image; read = is.read; profile = profile; given = is.given; says = of };
+      none-until files profile (rank kind + 1) fits gives (λ other place earlier offends. of.faultless other place offends) kind spot (omega arith);
+  analysed = record { profile = profile; gives = gives; says = of };
 }
 
--- So the answer of the program is one of the file.
-pub answers-refused : (file : List ℕ) (image : Image) (profile : Profile) (result : Result Analysis Refused) → IsReadAs file image profile →
-    ((place : ℕ) → IsClash image profile place → ⊥) → IfErr result (TellsFaultIn image profile image.entry) → IfErr result (TellsFault file)
-answers-refused file image profile (Ok analysis) is apart told = told
-answers-refused file image profile (Err refused) is apart told = tells-program file image profile refused is apart told
-
-pub answers-analysed : (file : List ℕ) (image : Image) (profile : Profile) (result : Result Analysis Refused) → IsReadAs file image profile →
-    ((place : ℕ) → IsClash image profile place → ⊥) → IfOk result (IsAnalysisOf image profile image.entry) → IfOk result (IsAnalysis file)
-answers-analysed file image profile (Ok analysis) is apart told = is-analysis file image profile analysis is apart told
-answers-analysed file image profile (Err refused) is apart told = told
-
--- A file above its limit is too long, before all else.
-none-earlier : (file : List ℕ) (kind : RefusalKind) (spot : Spot) → rank kind < 0 → Offends file kind spot → ⊥
-none-earlier file kind spot earlier offends = absurd (omega (arith, earlier))
-
-pub first-long : (file : List ℕ) → file_limit < length file → IsFirstFault file (at_number TooLong file_limit)
-first-long file long = record {
-  offends = (long, refl);
-  first = none-earlier file;
-  least = λ spot less offends. lesser spot less offends;
-} where
-  lesser : (spot : Spot) → IsLess spot (Number file_limit) → Offends file TooLong spot → ⊥
-  lesser (Number other) less offends = absurd (omega (arith, less, offends.1))
-  lesser (Key path) less offends = offends
-
--- The reader's kinds among the kinds of refusals.
-rank-kind_of : (kind : ElfKind) → (rank (kind_of kind) ≡ order kind + 4) × (order kind < 7)
-rank-kind_of elf.Short = (refl, omega arith)
-rank-kind_of elf.NotElf = (refl, omega arith)
-rank-kind_of elf.NotThisKind = (refl, omega arith)
-rank-kind_of elf.BadTable = (refl, omega arith)
-rank-kind_of elf.BadSegment = (refl, omega arith)
-rank-kind_of elf.BadSection = (refl, omega arith)
-rank-kind_of elf.BadRecord = (refl, omega arith)
-
-offends-of : (file : List ℕ) (kind : ElfKind) (place : ℕ) → Contains (offenders kind file) place → OffendsAt file (kind_of kind) place
-offends-of file elf.Short place here = here
-offends-of file elf.NotElf place here = here
-offends-of file elf.NotThisKind place here = here
-offends-of file elf.BadTable place here = here
-offends-of file elf.BadSegment place here = here
-offends-of file elf.BadSection place here = here
-offends-of file elf.BadRecord place here = here
-
-contains-of : (file : List ℕ) (kind : ElfKind) (place : ℕ) → OffendsAt file (kind_of kind) place → Contains (offenders kind file) place
-contains-of file elf.Short place here = here
-contains-of file elf.NotElf place here = here
-contains-of file elf.NotThisKind place here = here
-contains-of file elf.BadTable place here = here
-contains-of file elf.BadSegment place here = here
-contains-of file elf.BadSection place here = here
-contains-of file elf.BadRecord place here = here
-
--- No kind before a fault of the reader has an offender.
-earlier-kinds : (file : List ℕ) (n : ℕ) → length file ≤ file_limit → IsCleanBelow n file → n < 7 →
-    (kind : RefusalKind) (spot : Spot) → rank kind < n + 4 → Offends file kind spot → ⊥
-earlier-kinds file n fits clean low kind (Key path) earlier offends = offends
-earlier-kinds file n fits clean low TooLong (Number place) earlier offends = absurd (omega (arith, offends.0, fits))
-earlier-kinds file n fits clean low Short (Number place) earlier offends = nothing _ place (clean elf.Short (omega (arith, earlier))) offends
-earlier-kinds file n fits clean low NotElf (Number place) earlier offends = nothing _ place (clean elf.NotElf (omega (arith, earlier))) offends
-earlier-kinds file n fits clean low NotThisKind (Number place) earlier offends = nothing _ place (clean elf.NotThisKind (omega (arith, earlier))) offends
-earlier-kinds file n fits clean low BadTable (Number place) earlier offends = nothing _ place (clean elf.BadTable (omega (arith, earlier))) offends
-earlier-kinds file n fits clean low BadSegment (Number place) earlier offends = nothing _ place (clean elf.BadSegment (omega (arith, earlier))) offends
-earlier-kinds file n fits clean low BadSection (Number place) earlier offends = nothing _ place (clean elf.BadSection (omega (arith, earlier))) offends
-earlier-kinds file n fits clean low BadRecord (Number place) earlier offends = nothing _ place (clean elf.BadRecord (omega (arith, earlier))) offends
-earlier-kinds file n fits clean low RegionClash (Number place) earlier offends = absurd (omega (arith, earlier, low))
-earlier-kinds file n fits clean low Unfollowed (Number place) earlier offends = absurd (omega (arith, earlier, low))
-earlier-kinds file n fits clean low WritableCode (Number place) earlier offends = absurd (omega (arith, earlier, low))
-earlier-kinds file n fits clean low UnknownWord (Number place) earlier offends = absurd (omega (arith, earlier, low))
-earlier-kinds file n fits clean low TransferInSlot (Number place) earlier offends = absurd (omega (arith, earlier, low))
-earlier-kinds file n fits clean low UnknownTarget (Number place) earlier offends = absurd (omega (arith, earlier, low))
-earlier-kinds file n fits clean low LinkRegister (Number place) earlier offends = absurd (omega (arith, earlier, low))
-earlier-kinds file n fits clean low Recursion (Number place) earlier offends = absurd (omega (arith, earlier, low))
-earlier-kinds file n fits clean low Irreducible (Number place) earlier offends = absurd (omega (arith, earlier, low))
-earlier-kinds file n fits clean low NoBound (Number place) earlier offends = absurd (omega (arith, earlier, low))
-earlier-kinds file n fits clean low NeverReturns (Number place) earlier offends = absurd (omega (arith, earlier, low))
-earlier-kinds file n fits clean low BoundTooLarge (Number place) earlier offends = absurd (omega (arith, earlier, low))
-
--- What the reader tells of a fault is the file's first fault.
-first-bad : (file : List ℕ) (kind : ElfKind) (place : ℕ) → length file ≤ file_limit → IsFirstElfFault file kind place →
-    IsFirstFault file (at_number (kind_of kind) place)
-first-bad file kind place fits fault =
-    let known = rank-kind_of kind in
-    record {
-      offends = offends-of file kind place fault.here;
-      first = λ other spot earlier offends.
-          earlier-kinds file (order kind) fits fault.first known.1 other spot (omega (arith, known.0, earlier)) offends;
-      least = λ spot less offends. lesser spot less offends;
-    } where
-      lesser : (spot : Spot) → IsLess spot (Number place) → Offends file (kind_of kind) spot → ⊥
-      lesser (Number other) less offends = none_below (offenders kind file) place other fault.least less (contains-of file kind other offends)
-      lesser (Key path) less offends = offends
-
-pub tells-bad : (file : List ℕ) (fault : ElfFault) → length file ≤ file_limit → Tells file fault → TellsFault file (refused_of fault)
-tells-bad file (elf_fault.Bad kind place) fits tells = first-bad file kind place fits tells
-tells-bad file elf_fault.Memory fits tells = tt
+pub answers-analysed : (files : Given) (profile : Profile) (result : Result Analysis Refused) → Fits files → GivesProfile files.config profile →
+    IfOk result (IsAnalysisFor files.elf profile) → IfOk result (IsAnalysis files)
+answers-analysed files profile (Ok analysis) fits gives told = is-analysis files profile analysis fits gives told
+answers-analysed files profile (Err refused) fits gives told = told

@@ -1,5 +1,8 @@
 pub mod CodeKinds
 pub mod FaultLemmas
+pub mod FileFaultLemmas
+pub mod ConfigFaultLemmas
+pub mod ReadLemmas
 pub mod LeastLemmas
 pub mod NetBound
 pub mod ProgramFaultLemmas

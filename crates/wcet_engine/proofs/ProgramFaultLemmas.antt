@@ -8,7 +8,7 @@ use Rattle.net_model.specs.Faults.{rank as code_rank}
 use Rattle.wcet_engine.specs.declared.analysis.Refused.{Refused}
 use Rattle.wcet_engine.specs.declared.analysis.Refused.TheVariants.{Fault, Memory}
 use Rattle.wcet_engine.specs.declared.refusal.RefusalKind.{RefusalKind}
-use Rattle.wcet_engine.specs.declared.refusal.RefusalKind.TheVariants.{TooLong, Short, NotElf, NotThisKind, BadTable, BadSegment, BadSection, BadRecord, RegionClash, Unfollowed, WritableCode, UnknownWord, TransferInSlot, UnknownTarget, LinkRegister, Recursion, Irreducible, NoBound, NeverReturns, BoundTooLarge}
+use Rattle.wcet_engine.specs.declared.refusal.RefusalKind.TheVariants.{TooLong, ConfigText, ConfigKey, ConfigRange, Short, NotElf, NotThisKind, BadTable, BadSegment, BadSection, BadRecord, NoSymbol, RegionClash, Unbuilt, Unfollowed, WritableCode, UnknownWord, TransferInSlot, UnknownTarget, LinkRegister, Recursion, Irreducible, NoBound, NeverReturns, BoundTooLarge}
 use Rattle.wcet_engine.specs.declared.refusal.Refusal.{Refusal}
 use Rattle.wcet_engine.specs.declared.refusal.Spot.{Spot}
 use Rattle.wcet_engine.specs.declared.refusal.Spot.TheVariants.{Number, Key}
@@ -29,6 +29,9 @@ pub record IsFreeIn (image : Image) (profile : Profile) (entry limit : ℕ) : Ty
 pub none-in : (image : Image) (profile : Profile) (entry limit : ℕ) → IsFreeIn image profile entry limit →
     (kind : RefusalKind) (place : ℕ) → rank kind < limit → OffendsIn image profile entry kind place → ⊥
 none-in image profile entry limit free TooLong place earlier offends = offends
+none-in image profile entry limit free ConfigText place earlier offends = offends
+none-in image profile entry limit free ConfigKey place earlier offends = offends
+none-in image profile entry limit free ConfigRange place earlier offends = offends
 none-in image profile entry limit free Short place earlier offends = offends
 none-in image profile entry limit free NotElf place earlier offends = offends
 none-in image profile entry limit free NotThisKind place earlier offends = offends
@@ -36,7 +39,9 @@ none-in image profile entry limit free BadTable place earlier offends = offends
 none-in image profile entry limit free BadSegment place earlier offends = offends
 none-in image profile entry limit free BadSection place earlier offends = offends
 none-in image profile entry limit free BadRecord place earlier offends = offends
+none-in image profile entry limit free NoSymbol place earlier offends = offends
 none-in image profile entry limit free RegionClash place earlier offends = offends
+none-in image profile entry limit free Unbuilt place earlier offends = offends
 none-in image profile entry limit free Unfollowed place earlier offends = free.built earlier place offends
 none-in image profile entry limit free WritableCode place earlier offends = free.faultless code.WritableCode earlier place offends
 none-in image profile entry limit free UnknownWord place earlier offends = free.faultless code.UnknownWord earlier place offends

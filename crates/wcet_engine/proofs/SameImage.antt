@@ -26,7 +26,7 @@ use Rattle.net_model.proofs.SameCode.{IsSameCode, function-same, offends-same, r
 use Rattle.net_model.proofs.SameNets.{irreducible-same, net-same, unbounded-same}
 use Rattle.loop_nest.specs.Programs.{IsIrreducibleIn, IsUnboundedIn}
 use Rattle.wcet_engine.specs.declared.refusal.RefusalKind.{RefusalKind}
-use Rattle.wcet_engine.specs.declared.refusal.RefusalKind.TheVariants.{TooLong, Short, NotElf, NotThisKind, BadTable, BadSegment, BadSection, BadRecord, RegionClash, Unfollowed, WritableCode, UnknownWord, TransferInSlot, UnknownTarget, LinkRegister, Recursion, Irreducible, NoBound, NeverReturns, BoundTooLarge}
+use Rattle.wcet_engine.specs.declared.refusal.RefusalKind.TheVariants.{TooLong, ConfigText, ConfigKey, ConfigRange, Short, NotElf, NotThisKind, BadTable, BadSegment, BadSection, BadRecord, NoSymbol, RegionClash, Unbuilt, Unfollowed, WritableCode, UnknownWord, TransferInSlot, UnknownTarget, LinkRegister, Recursion, Irreducible, NoBound, NeverReturns, BoundTooLarge}
 use Rattle.wcet_engine.specs.ProgramFaults.{HasNoReturn, IsCodeFault, IsTooLarge, OffendsIn}
 use Rattle.wcet_engine.specs.Unbuilt.{IsUnbuiltAt}
 use Rattle.wcet_engine.proofs.SameCosts.{HaveSameCosts, same-price}
@@ -127,6 +127,9 @@ no_return-same a b entry same none address unit reached stands =
 pub program-same : (a b : Image) (profile other : Profile) (entry : ℕ) (kind : RefusalKind) (place : ℕ) → IsSame a b →
     HaveSameCosts profile other → OffendsIn a profile entry kind place → OffendsIn b other entry kind place
 program-same a b profile other entry TooLong place same costs offends = absurd offends
+program-same a b profile other entry ConfigText place same costs offends = absurd offends
+program-same a b profile other entry ConfigKey place same costs offends = absurd offends
+program-same a b profile other entry ConfigRange place same costs offends = absurd offends
 program-same a b profile other entry Short place same costs offends = absurd offends
 program-same a b profile other entry NotElf place same costs offends = absurd offends
 program-same a b profile other entry NotThisKind place same costs offends = absurd offends
@@ -134,7 +137,9 @@ program-same a b profile other entry BadTable place same costs offends = absurd 
 program-same a b profile other entry BadSegment place same costs offends = absurd offends
 program-same a b profile other entry BadSection place same costs offends = absurd offends
 program-same a b profile other entry BadRecord place same costs offends = absurd offends
+program-same a b profile other entry NoSymbol place same costs offends = absurd offends
 program-same a b profile other entry RegionClash place same costs offends = absurd offends
+program-same a b profile other entry Unbuilt place same costs offends = absurd offends
 program-same a b profile other entry Unfollowed place same costs offends = unbuilt-same a b entry place same offends
 program-same a b profile other entry WritableCode place same costs offends = fault-same a b entry code.WritableCode place same offends
 program-same a b profile other entry UnknownWord place same costs offends = fault-same a b entry code.UnknownWord place same offends

@@ -1,15 +1,16 @@
--- What an answer says of a file.
-use Rattle.std.specs.Prelude.{ℕ, List, Option, Some, None}
+-- What an answer says of the files.
+use Rattle.std.specs.Prelude.{Option, Some, None}
 use Rattle.wcet_engine.specs.declared.answer.Answer.{Answer}
 use Rattle.wcet_engine.specs.declared.answer.Answer.TheVariants.{Analysed, Refused}
 use Rattle.wcet_engine.specs.Faults.{IsAnalysis, IsFirstFault}
+use Rattle.wcet_engine.specs.Given.{Given}
 
--- A file without a fault is analysed, any other one is refused with its first fault.
-abbrev pub IsAnswerTo : List ℕ → Answer → Type 0
-IsAnswerTo file (Analysed analysis) = IsAnalysis file analysis
-IsAnswerTo file (Refused refusal) = IsFirstFault file refusal
+-- Files without a fault are analysed, any others are refused with their first fault.
+abbrev pub IsAnswerTo : Given → Answer → Type 0
+IsAnswerTo files (Analysed analysis) = IsAnalysis files analysis
+IsAnswerTo files (Refused refusal) = IsFirstFault files refusal
 
--- The answer for the contents that a shelf tells; it says nothing where the shelf tells none.
-abbrev pub IsAnswer : Option (List ℕ) → Answer → Type 0
+-- The answer for the files that are read; it says nothing where a shelf doesn't tell their contents.
+abbrev pub IsAnswer : Option Given → Answer → Type 0
 IsAnswer None answer = Unit {0}
-IsAnswer (Some file) answer = IsAnswerTo file answer
+IsAnswer (Some files) answer = IsAnswerTo files answer

@@ -4,6 +4,8 @@ pub mod Around
 pub mod Clash
 pub mod Code
 pub mod Faults
+pub mod FileFaults
+pub mod Given
 pub mod Outcomes
 pub mod ProgramFaults
 pub mod Records

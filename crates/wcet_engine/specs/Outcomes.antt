@@ -8,26 +8,28 @@ use Rattle.wcet_engine.specs.declared.answer.Answer.TheVariants as answer
 use Rattle.wcet_engine.specs.declared.refusal.Refusal.{Refusal}
 use Rattle.wcet_engine.specs.declared.top.Status.{Status}
 use Rattle.wcet_engine.specs.declared.top.Status.TheVariants.{Done, Usage, Refused, ReadFault, WriteFault, Memory, Open, Rejected}
+use Rattle.wcet_engine.specs.declared.words.Command.{Command}
 use Rattle.wcet_engine.specs.Answers.{IsAnswer}
+use Rattle.wcet_engine.specs.Given.{Given}
 use Rattle.wcet_engine.specs.Texts.{text_of}
 
--- The file was analysed, and the analysis was taken whole.
-pub record TakesAnalysis (file : Option (List ℕ)) (before now : Option (List ℕ)) : Type 0 where
+-- The files were analysed, and the lines of the analysis were taken whole.
+pub record TakesAnalysis (command : Command) (files : Option Given) (before now : Option (List ℕ)) : Type 0 where
   pub analysis : Analysis
-  pub holds : IsAnswer file (answer.Analysed analysis)
-  pub taken : Appends before now (text_of (answer.Analysed analysis))
+  pub holds : IsAnswer files (answer.Analysed analysis)
+  pub taken : Appends before now (text_of command (answer.Analysed analysis))
 
--- The file has a first fault, and its refusal was taken whole.
-pub record TakesRefusal (file : Option (List ℕ)) (before now : Option (List ℕ)) : Type 0 where
+-- The files have a first fault, and its refusal was taken whole.
+pub record TakesRefusal (command : Command) (files : Option Given) (before now : Option (List ℕ)) : Type 0 where
   pub refusal : Refusal
-  pub holds : IsAnswer file (answer.Refused refusal)
-  pub taken : Appends before now (text_of (answer.Refused refusal))
+  pub holds : IsAnswer files (answer.Refused refusal)
+  pub taken : Appends before now (text_of command (answer.Refused refusal))
 
 -- A front of the answer's text was taken.
-pub record TakesFront (file : Option (List ℕ)) (before now : Option (List ℕ)) : Type 0 where
+pub record TakesFront (command : Command) (files : Option Given) (before now : Option (List ℕ)) : Type 0 where
   pub given : Answer
-  pub holds : IsAnswer file given
-  pub taken : AppendsFront before now (text_of given)
+  pub holds : IsAnswer files given
+  pub taken : AppendsFront before now (text_of command given)
 
 -- The status of an answer that was taken whole.
 abbrev pub status_of : Answer → Status
@@ -36,18 +38,18 @@ status_of (answer.Refused refusal) = Refused
 
 -- What a sink holds after the text of an answer was written to it: it took the text whole, or a front of it, or no text
 -- was made for want of memory.
-abbrev pub Told : Answer → Status → Option (List ℕ) → Option (List ℕ) → Type 0
-Told given status before now =
-    ((status ≡ status_of given) × Appends before now (text_of given))
-    ⊎ (((status ≡ WriteFault) × AppendsFront before now (text_of given)) ⊎ ((status ≡ Memory) × (now ≡ before)))
+abbrev pub Told : Command → Answer → Status → Option (List ℕ) → Option (List ℕ) → Type 0
+Told command given status before now =
+    ((status ≡ status_of given) × Appends before now (text_of command given))
+    ⊎ (((status ≡ WriteFault) × AppendsFront before now (text_of command given)) ⊎ ((status ≡ Memory) × (now ≡ before)))
 
--- What was written for a file with these contents. What the sink held before stays in front.
-abbrev pub Wrote : Option (List ℕ) → Status → Option (List ℕ) → Option (List ℕ) → Type 0
-Wrote file Done before now = TakesAnalysis file before now
-Wrote file Refused before now = TakesRefusal file before now
-Wrote file WriteFault before now = TakesFront file before now
-Wrote file Usage before now = now ≡ before
-Wrote file ReadFault before now = now ≡ before
-Wrote file Memory before now = now ≡ before
-Wrote file Open before now = ⊥
-Wrote file Rejected before now = ⊥
+-- What was written to a command for these files. What the sink held before stays in front.
+abbrev pub Wrote : Command → Option Given → Status → Option (List ℕ) → Option (List ℕ) → Type 0
+Wrote command files Done before now = TakesAnalysis command files before now
+Wrote command files Refused before now = TakesRefusal command files before now
+Wrote command files WriteFault before now = TakesFront command files before now
+Wrote command files Usage before now = now ≡ before
+Wrote command files ReadFault before now = now ≡ before
+Wrote command files Memory before now = now ≡ before
+Wrote command files Open before now = ⊥
+Wrote command files Rejected before now = ⊥

@@ -8,11 +8,15 @@ use Rattle.wcet_engine.specs.declared.refusal.Refusal.{Refusal}
 use Rattle.wcet_engine.specs.declared.refusal.RefusalKind.{RefusalKind}
 use Rattle.wcet_engine.specs.declared.refusal.Spot.{Spot}
 use Rattle.wcet_engine.specs.declared.refusal.Spot.TheVariants.{Number, Key}
-use Rattle.wcet_engine.specs.declared.refusal.RefusalKind.TheVariants.{TooLong, Short, NotElf, NotThisKind, BadTable, BadSegment, BadSection, BadRecord, RegionClash, Unfollowed, WritableCode, UnknownWord, TransferInSlot, UnknownTarget, LinkRegister, Recursion, Irreducible, NoBound, NeverReturns, BoundTooLarge}
+use Rattle.wcet_engine.specs.declared.refusal.RefusalKind.TheVariants.{TooLong, ConfigText, ConfigKey, ConfigRange, Short, NotElf, NotThisKind, BadTable, BadSegment, BadSection, BadRecord, NoSymbol, RegionClash, Unbuilt, Unfollowed, WritableCode, UnknownWord, TransferInSlot, UnknownTarget, LinkRegister, Recursion, Irreducible, NoBound, NeverReturns, BoundTooLarge}
 
 -- A fault at a place that is a number.
 abbrev pub at_number : RefusalKind → ℕ → Refusal
 at_number kind place = record { kind = kind; spot = Number place }
+
+-- A fault at the key of a path.
+abbrev pub at_key : RefusalKind → List ℕ → Refusal
+at_key kind path = record { kind = kind; spot = Key path }
 
 -- What is said of a place that is a number; it isn't said of a key.
 abbrev pub says_at : (ℕ → Type 0) → Spot → Type 0
@@ -22,6 +26,9 @@ says_at Says (Key path) = ⊥
 -- The rank of a kind: of several kinds that a file has, the one of the least rank is answered.
 abbrev pub rank : RefusalKind → ℕ
 rank TooLong = 0
+rank ConfigText = 1
+rank ConfigKey = 2
+rank ConfigRange = 3
 rank Short = 4
 rank NotElf = 5
 rank NotThisKind = 6
@@ -29,7 +36,9 @@ rank BadTable = 7
 rank BadSegment = 8
 rank BadSection = 9
 rank BadRecord = 10
+rank NoSymbol = 11
 rank RegionClash = 12
+rank Unbuilt = 13
 rank Unfollowed = 14
 rank WritableCode = 15
 rank UnknownWord = 16
@@ -45,6 +54,9 @@ rank BoundTooLarge = 25
 -- The name of a kind in a refusal line.
 abbrev pub name_of : RefusalKind → List ℕ
 name_of TooLong = codes "too-long"
+name_of ConfigText = codes "config-text"
+name_of ConfigKey = codes "config-key"
+name_of ConfigRange = codes "config-range"
 name_of Short = codes "short"
 name_of NotElf = codes "not-elf"
 name_of NotThisKind = codes "not-this-kind"
@@ -52,7 +64,9 @@ name_of BadTable = codes "bad-table"
 name_of BadSegment = codes "bad-segment"
 name_of BadSection = codes "bad-section"
 name_of BadRecord = codes "bad-record"
+name_of NoSymbol = codes "no-symbol"
 name_of RegionClash = codes "region-clash"
+name_of Unbuilt = codes "unbuilt"
 name_of Unfollowed = codes "unbuilt"
 name_of WritableCode = codes "writable-code"
 name_of UnknownWord = codes "unknown-word"

@@ -13,6 +13,8 @@ use Rattle.wcet_engine.specs.declared.answer.Answer.TheVariants.{Analysed, Refus
 use Rattle.wcet_engine.specs.declared.refusal.Refusal.{Refusal}
 use Rattle.wcet_engine.specs.declared.refusal.Spot.{Spot}
 use Rattle.wcet_engine.specs.declared.refusal.Spot.TheVariants.{Number, Key}
+use Rattle.wcet_engine.specs.declared.words.Command.{Command}
+use Rattle.wcet_engine.specs.declared.words.Command.TheVariants.{Analyse, Bound}
 use Rattle.wcet_engine.specs.Refusals.{name_of}
 
 -- A number as eight upper-case hexadecimal digits, with zeros in front.
@@ -58,9 +60,19 @@ certificate_text certificate =
     ++ flat_map node_text certificate.tree
     ++ codes "end\n"
 
+-- What `analyse` prints.
 abbrev pub analysis_text : Analysis → List ℕ
 analysis_text analysis = certificate_text analysis.certificate
 
-abbrev pub text_of : Answer → List ℕ
-text_of (Analysed analysis) = analysis_text analysis
-text_of (Refused refusal) = refusal_text refusal
+-- What `bound` prints: the lines of the same text from `bound` to `end`.
+abbrev pub bound_text : Analysis → List ℕ
+bound_text analysis = certificate_text analysis.certificate
+
+abbrev pub lines_of : Command → Analysis → List ℕ
+lines_of Analyse analysis = analysis_text analysis
+lines_of Bound analysis = bound_text analysis
+
+-- The answer to a command.
+abbrev pub text_of : Command → Answer → List ℕ
+text_of command (Analysed analysis) = lines_of command analysis
+text_of command (Refused refusal) = refusal_text refusal

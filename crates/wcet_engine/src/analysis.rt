@@ -5,8 +5,8 @@ ghost use Rattle.std.specs.Prelude.{◌≡◌, ◌≤◌, length, IfOk, IfErr};
 use crate::clash::clash_place;
 use crate::program::analyse_program;
 use crate::refusal::{Refusal, RefusalKind};
-use cache_config::Profile;
-use elf_mips::{ElfFault, read_image};
+use cache_config::{ConfigFault, Profile};
+use elf_mips::{ElfFault, Image, read_image};
 use ipet_program::Certificate;
 use std::alloc::{AllocError, Global};
 use unit_graph::CodeFault;
@@ -39,7 +39,7 @@ impl Refused {
 }
 
 impl From<ElfFault> for Refused {
-    ghost use Rattle.wcet_engine.specs.Faults.{refused_of};
+    ghost use Rattle.wcet_engine.specs.FileFaults.{refused_of};
 
     ghost from_gives = { λ fault e. e ≡ refused_of fault };
 
@@ -47,6 +47,26 @@ impl From<ElfFault> for Refused {
         match fault {
             ElfFault::Bad { kind, offset } => Refused::at(RefusalKind::of_elf(kind), offset),
             ElfFault::Memory => Refused::Memory,
+        }
+    }
+}
+
+impl From<ConfigFault> for Refused {
+    ghost use Rattle.wcet_engine.specs.Faults.{refused_for};
+
+    ghost from_gives = { λ fault e. e ≡ refused_for fault };
+
+    fn from(fault: ConfigFault) -> Refused {
+        match fault {
+            ConfigFault::Text => Refused::at(RefusalKind::ConfigText, 0),
+            ConfigFault::Key { path } => Refused::Fault(Refusal::at_key(
+                RefusalKind::ConfigKey,
+                path,
+            )),
+            ConfigFault::Range { path } => {
+                Refused::Fault(Refusal::at_key(RefusalKind::ConfigRange, path))
+            }
+            ConfigFault::Memory => Refused::Memory,
         }
     }
 }
@@ -74,21 +94,37 @@ impl From<AllocError> for Refused {
     }
 }
 
-ghost use Rattle.wcet_engine.specs.Faults.{TellsFault, IsAnalysis, file_limit};
+ghost use Rattle.wcet_engine.specs.FileFaults.{IsAnalysisFor, TellsFaultOf, entry_of};
+ghost use Rattle.wcet_engine.specs.Given.{file_limit};
 
-/// Analyses the bytes of an ELF file under the plain profile: memory takes 10 cycles, each
-/// instruction 1 of its own.
+/// Where a program is entered: at the first symbol of the name that the profile has, or else at the image's
+/// own entry. `None` where no symbol has the name.
+fn entry_of(image: &Image, profile: &Profile) -> Option<u32>
+    ensures { result ≡ entry_of image.now profile.now }
+{
+    match &profile.entry {
+        None => Some(image.entry),
+        Some(name) => image.symbol(name.as_slice()),
+    }
+}
+
+/// Analyses the bytes of an ELF file under a profile.
 ///
-/// `Fault` is the file's first fault with its place.
-pub fn analyse_bytes(alloc: Global, elf: &[u8]) -> Result<Analysis, Refused>
+/// `Fault` is the file's first fault with its place: a kind from `Short` on.
+pub fn analyse_bytes(alloc: Global, elf: &[u8], profile: &Profile) -> Result<Analysis, Refused>
     requires { length elf.now ≤ file_limit }
-    ensures analysed { IfOk result (IsAnalysis elf.now) }
-    ensures refused { IfErr result (TellsFault elf.now) }
+    ensures analysed { IfOk result (IsAnalysisFor elf.now profile.now) }
+    ensures refused { IfErr result (TellsFaultOf elf.now profile.now) }
 {
     let image = read_image(alloc, elf)?;
-    let profile = Profile::plain(alloc);
-    if let Some(place) = clash_place(&image, &profile) {
+    let Some(entry) = entry_of(&image, profile) else {
+        return Err(Refused::at(RefusalKind::NoSymbol, 0));
+    };
+    if let Some(place) = clash_place(&image, profile) {
         return Err(Refused::at(RefusalKind::RegionClash, place));
     }
-    analyse_program(alloc, &image, &profile, image.entry)
+    if profile.unbuilt {
+        return Err(Refused::at(RefusalKind::Unbuilt, 0));
+    }
+    analyse_program(alloc, &image, profile, entry)
 }

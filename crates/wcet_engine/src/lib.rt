@@ -9,9 +9,12 @@ mod clash;
 mod code;
 #[cfg(test)]
 mod code_tests;
+mod contents;
 #[cfg(test)]
 mod loop_tests;
 mod net;
+#[cfg(test)]
+mod profile_tests;
 mod program;
 mod refusal;
 #[cfg(test)]

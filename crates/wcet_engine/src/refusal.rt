@@ -9,8 +9,14 @@ use wcet_io::List;
 /// The kinds of refusals, in the order in which they are looked for.
 #[derive(Clone, Copy, Debug, PartialEq, Eq)]
 pub enum RefusalKind {
-    /// The file has more bytes than its limit, 16,777,216. The place is the limit.
+    /// A file has more bytes than its limit, 16,777,216. The place is the limit.
     TooLong,
+    /// The profile's text isn't UTF-8, or isn't TOML. The place is 0.
+    ConfigText,
+    /// A key of the profile is unknown, or is missing. The place is the key's path.
+    ConfigKey,
+    /// A value of the profile is of another kind, or out of its limits. The place is the key's path.
+    ConfigRange,
     /// The file has fewer bytes than an ELF header has, 52. The place is its length.
     Short,
     /// The file doesn't begin with the magic number of ELF. The place is 0.
@@ -25,8 +31,13 @@ pub enum RefusalKind {
     BadSection,
     /// A record isn't lawful. The place is its offset in the file.
     BadRecord,
-    /// The stack shares an address with a loaded segment. The place is the least such address.
+    /// No symbol has the name of the profile's entry. The place is 0.
+    NoSymbol,
+    /// The stack or a region of the profile shares an address with a loaded segment. The place is the least such
+    /// address.
     RegionClash,
+    /// The profile has caches, which aren't analysed yet. The place is 0.
+    Unbuilt,
     /// The entry reaches a call or an indirect jump, which aren't analysed yet: `unbuilt`. The place is the
     /// unit's address.
     Unfollowed,
@@ -69,7 +80,17 @@ pub struct Refusal {
 }
 
 impl Refusal {
-    ghost use Rattle.wcet_engine.specs.Refusals.{at_number};
+    ghost use Rattle.wcet_engine.specs.Refusals.{at_key, at_number};
+
+    /// A fault at the key of a path.
+    pub fn at_key(kind: RefusalKind, path: List<u8>) -> Refusal
+        ensures { result ≡ at_key kind path }
+    {
+        Refusal {
+            kind,
+            spot: Spot::Key(path),
+        }
+    }
 
     /// A fault at a place that is a number.
     pub fn at(kind: RefusalKind, place: u32) -> Refusal
@@ -122,6 +143,9 @@ impl RefusalKind {
     {
         match self {
             RefusalKind::TooLong => "too-long",
+            RefusalKind::ConfigText => "config-text",
+            RefusalKind::ConfigKey => "config-key",
+            RefusalKind::ConfigRange => "config-range",
             RefusalKind::Short => "short",
             RefusalKind::NotElf => "not-elf",
             RefusalKind::NotThisKind => "not-this-kind",
@@ -129,7 +153,9 @@ impl RefusalKind {
             RefusalKind::BadSegment => "bad-segment",
             RefusalKind::BadSection => "bad-section",
             RefusalKind::BadRecord => "bad-record",
+            RefusalKind::NoSymbol => "no-symbol",
             RefusalKind::RegionClash => "region-clash",
+            RefusalKind::Unbuilt => "unbuilt",
             RefusalKind::Unfollowed => "unbuilt",
             RefusalKind::WritableCode => "writable-code",
             RefusalKind::UnknownWord => "unknown-word",

@@ -79,6 +79,23 @@ fn answer(
     Ok((status, out.taken().to_vec(alloc)?))
 }
 
+/// The status of the words on an ELF file `f` and a profile `c`, and the bytes that the sink took.
+pub fn answer_by(
+    alloc: Global,
+    words: &[&str],
+    bytes: &[u8],
+    profile: &[u8],
+    shelf_fails: &[u64],
+) -> Result<(Status, Vec<u8>), Fail> {
+    let words = texts(alloc, words)?;
+    let mut files = MemShelf::new(alloc, 65_536, shelf_fails.to_vec(alloc)?);
+    files.add("f", bytes)?;
+    files.add("c", profile)?;
+    let mut out = MemSink::new(alloc, 4096, 8192, Vec::new(alloc))?;
+    let status = wcet_main(alloc, &words, &mut files, &mut out);
+    Ok((status, out.taken().to_vec(alloc)?))
+}
+
 /// What `analyse` prints for a file, with its status.
 pub fn analysed(alloc: Global, bytes: &[u8]) -> Result<(Status, Vec<u8>), Fail> {
     answer(alloc, &["analyse", "f"], bytes, &[], 16, &[])

@@ -2,10 +2,12 @@
 
 ghost use Rattle.std.specs.Prelude.{◌≡◌, ◌++◌, flat_map, IfOk, OnOk};
 ghost use Rattle.std.specs.String.{string_bytes};
-ghost use Rattle.wcet_engine.specs.Texts.{certificate_text, count_text, leaf_head, leaf_text, node_text, refusal_text, spot_text, text_of, weight_text};
+ghost use Rattle.wcet_engine.specs.Texts.{certificate_text, count_text, leaf_head, leaf_text, lines_of, node_text, refusal_text, spot_text, text_of, weight_text};
 
+use crate::analysis::Analysis;
 use crate::answer::Answer;
 use crate::refusal::{Refusal, Spot};
+use crate::words::Command;
 use ipet_program::{Certificate, Count, Leaf, Node, Weight};
 use std::alloc::{AllocError, Global};
 
@@ -129,15 +131,26 @@ fn print_certificate(alloc: Global, certificate: &Certificate) -> Result<String,
     Ok(text)
 }
 
-/// The text of an answer.
-pub fn print_answer(alloc: Global, answer: &Answer) -> Result<Vec<u8>, AllocError>
-    ensures { IfOk result (λ text. text.items ≡ text_of answer.now) }
+/// The lines of an analysis that a command asks for: those of both are the same so far.
+fn print_analysis(
+    alloc: Global,
+    command: Command,
+    analysis: &Analysis,
+) -> Result<String, AllocError>
+    ensures { IfOk result (λ text. string_bytes text ≡ lines_of command analysis.now) }
+{
+    match command {
+        Command::Analyse => print_certificate(alloc, &analysis.certificate),
+        Command::Bound => print_certificate(alloc, &analysis.certificate),
+    }
+}
+
+/// The text of an answer to a command.
+pub fn print_answer(alloc: Global, command: Command, answer: &Answer) -> Result<Vec<u8>, AllocError>
+    ensures { IfOk result (λ text. text.items ≡ text_of command answer.now) }
 {
     match answer {
-        Answer::Analysed(analysis) => Ok(print_certificate(
-            alloc,
-            &analysis.certificate,
-        )?.into_bytes()),
+        Answer::Analysed(analysis) => Ok(print_analysis(alloc, command, analysis)?.into_bytes()),
         Answer::Refused(refusal) => print_refusal(alloc, refusal),
     }
 }

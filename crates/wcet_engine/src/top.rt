@@ -5,11 +5,13 @@ ghost use Rattle.std.specs.Io.KnownBytes.{Appends};
 ghost use Rattle.wcet_io.specs.Causes.{HasCause, Rose};
 ghost use Rattle.wcet_io.specs.Fronts.{AppendsFront};
 ghost use Rattle.wcet_engine.specs.Texts.{text_of};
-ghost use Rattle.wcet_engine.specs.Words.{elf_of, form_of, words_of};
+ghost use Rattle.wcet_engine.specs.Given.{read_by};
+ghost use Rattle.wcet_engine.specs.Words.{form_of, words_of};
 
-use crate::answer::{Answer, Stopped, answer_for};
+use crate::answer::{Answer, answer_for};
+use crate::contents::Stopped;
 use crate::text::print_answer;
-use crate::words::elf_name;
+use crate::words::{Command, form_of};
 use std::alloc::Global;
 use wcet_io::{Shelf, Sink, deliver};
 
@@ -20,7 +22,7 @@ pub enum Status {
     Done,
     /// The words have no form; nothing was read or written.
     Usage,
-    /// The file has a fault; the refusal line was taken whole.
+    /// The files have a fault; the refusal line was taken whole.
     Refused,
     /// The shelf failed; nothing was written.
     ReadFault,
@@ -36,7 +38,7 @@ pub enum Status {
 
 ghost use Rattle.wcet_engine.specs.Outcomes.{Told, Wrote, status_of};
 
-/// Analyses the file that the words name, and writes the answer to the sink.
+/// Analyses the files that the words name, and writes the answer to the sink.
 ///
 /// All output is made before the first byte is written.
 pub fn wcet_main<F: Shelf, O: Sink>(
@@ -50,10 +52,10 @@ pub fn wcet_main<F: Shelf, O: Sink>(
     ensures unread { result ≡ Status.Usage → files.new ≡ files.old }
     ensures unwritten { result ≡ Status.Usage → out.new ≡ out.old }
 
-    // What is written, for the contents that the shelf tells: the sentence of the bound, or the
-    // first fault with its place.
+    // What is written, for the contents that the shelf tells: the lines of an analysis for which the
+    // sentence of the bound holds, or the first fault with its place.
     ensures wrote { IfSome (form_of (words_of words.now)) (λ form.
-        Wrote (F.told files.old (elf_of form)) result (O.held out.old) (O.held out.new)) }
+        Wrote form.command (read_by (F.told files.old) form) result (O.held out.old) (O.held out.new)) }
 
     // The faults of the shelf and of the sink.
     ensures read { result ≡ Status.ReadFault → Rose (F.faults files.old) (F.faults files.new) }
@@ -62,24 +64,24 @@ pub fn wcet_main<F: Shelf, O: Sink>(
     ensures out_later { O.faults out.old ≤ O.faults out.new }
     ensures kept { (name : List ℕ) → F.told files.new name ≡ F.told files.old name }
 {
-    let Some(name) = elf_name(words) else {
+    let Some(form) = form_of(words) else {
         return Status::Usage;
     };
-    let answer = match answer_for(alloc, files, name) {
+    let answer = match answer_for(alloc, files, &form) {
         Ok(answer) => answer,
         Err(Stopped::Read) => return Status::ReadFault,
         Err(Stopped::Memory) => return Status::Memory,
     };
-    tell(alloc, &answer, out)
+    tell(alloc, form.command, &answer, out)
 }
 
-/// Writes the text of an answer to the sink.
-fn tell<O: Sink>(alloc: Global, answer: &Answer, out: &mut O) -> Status
-    ensures told { Told answer.now result (O.held out.old) (O.held out.new) }
+/// Writes the text of an answer to a command to the sink.
+fn tell<O: Sink>(alloc: Global, command: Command, answer: &Answer, out: &mut O) -> Status
+    ensures told { Told command answer.now result (O.held out.old) (O.held out.new) }
     ensures write { result ≡ Status.WriteFault → Rose (O.faults out.old) (O.faults out.new) }
     ensures later { O.faults out.old ≤ O.faults out.new }
 {
-    let Ok(text) = print_answer(alloc, answer) else {
+    let Ok(text) = print_answer(alloc, command, answer) else {
         return Status::Memory;
     };
     match deliver(out, &text) {

@@ -1,85 +1,61 @@
--- Each answer is the file's first fault, or an analysis of a file without one.
+-- Each answer is the first fault of the file under the profile, or an analysis of a file without one.
+use Rattle.std.proofs.Common.{◌≡◌, ℕ, Option, Some, None, sym, ◌∙◌}
 use Rattle.std.proofs.lemmas.Result.{err_from_is_err_and}
 use Rattle.wcet_engine.specs.Clash.{IsClash}
-use Rattle.wcet_engine.proofs.FaultLemmas.{IsReadAs, answers-analysed, answers-refused, first-clash, tells-bad}
+use Rattle.wcet_engine.specs.FileFaults.{entry_of}
+use Rattle.wcet_engine.proofs.FileFaultLemmas.{IsReadAs, IsTaken, answers-analysed, answers-refused, first-clash, first-symbol, first-unbuilt, no-entry, tells-bad}
 use Rattle.wcet_engine.proofs.LeastLemmas.{finds-none}
 use Rattle.wcet_engine.proofs.analysis.analyse_bytes.Goals as goal
 
 pub returns-in_err-image-clause-refused : goal.returns-in_err-image-clause-refused
 returns-in_err-image-clause-refused c =
     let p = err_from_is_err_and c.from_residual.result c.from_residual.ensures.1 in
-    rw (p.1, p.2) (tells-bad c.args.elf.now _ c.requires c.in_err-image.ensures.err)
+    rw (p.1, p.2) (tells-bad c.args.elf.now c.args.profile.now _ c.in_err-image.ensures.err)
 
-pub returns-in-Some-clause-refused : goal.returns-in-Some-clause-refused
-returns-in-Some-clause-refused c =
-    let e = c.plain-profile.ensures in
+pub returns-in_default-clause-refused : goal.returns-in_default-clause-refused
+returns-in_default-clause-refused c =
     let image = c.in_ok-image.image in
-    let is : IsReadAs c.args.elf.now image c.plain-profile.result = record {
-      fits = c.requires;
-      clean = c.in_ok-image.ensures.sound;
-      read = c.in_ok-image.ensures.image;
-      given = record {
-        memory = e.memory;
-        store = e.store;
-        splits = e.splits;
-        steps = e.steps;
-        stack_top = e.stack_top;
-        stack_size = e.stack_size;
-        gp = e.gp;
-        entry = e.entry;
-        cycles = e.cycles;
-        regions = e.regions;
-        unbuilt = e.unbuilt;
-      };
-    } in
-    rw c.at.ensures (first-clash c.args.elf.now image c.plain-profile.result c.in-Some.place is c.in-Some.ensures)
+    let is : IsReadAs c.args.elf.now image = record { clean = c.in_ok-image.ensures.sound; read = c.in_ok-image.ensures.image } in
+    let none : entry_of image c.args.profile.now ≡ None = sym c.entry_of.ensures ∙ no-entry c.entry_of.result c.in_default.not-Some in
+    rw c.at.ensures (first-symbol c.args.elf.now c.args.profile.now image is none)
+
+pub returns-in-Some-clash_place-clause-refused : goal.returns-in-Some-clash_place-clause-refused
+returns-in-Some-clash_place-clause-refused c =
+    let image = c.in_ok-image.image in
+    let is : IsReadAs c.args.elf.now image = record { clean = c.in_ok-image.ensures.sound; read = c.in_ok-image.ensures.image } in
+    let enters : entry_of image c.args.profile.now ≡ Some c.in-Some.entry = sym c.entry_of.ensures ∙ c.in-Some.is in
+    rw c.at-in-Some-clash_place.ensures
+    (first-clash c.args.elf.now c.args.profile.now image c.in-Some.entry c.in-Some-clash_place.place is enters c.in-Some-clash_place.ensures)
+
+pub returns-then-profile-clause-refused : goal.returns-then-profile-clause-refused
+returns-then-profile-clause-refused c =
+    let image = c.in_ok-image.image in
+    let profile = c.args.profile.now in
+    let is : IsReadAs c.args.elf.now image = record { clean = c.in_ok-image.ensures.sound; read = c.in_ok-image.ensures.image } in
+    let enters : entry_of image profile ≡ Some c.in-Some.entry = sym c.entry_of.ensures ∙ c.in-Some.is in
+    let apart = finds-none (IsClash image profile) c.clash_place.result c.in_default-clash_place.not-Some c.clash_place.ensures in
+    rw c.at-then-profile.ensures (first-unbuilt c.args.elf.now profile image c.in-Some.entry is enters apart c.if-profile.true)
 
 pub returns-clause-refused : goal.returns-clause-refused
 returns-clause-refused c =
-    let e = c.plain-profile.ensures in
     let image = c.in_ok-image.image in
-    let is : IsReadAs c.args.elf.now image c.plain-profile.result = record {
-      fits = c.requires;
-      clean = c.in_ok-image.ensures.sound;
-      read = c.in_ok-image.ensures.image;
-      given = record {
-        memory = e.memory;
-        store = e.store;
-        splits = e.splits;
-        steps = e.steps;
-        stack_top = e.stack_top;
-        stack_size = e.stack_size;
-        gp = e.gp;
-        entry = e.entry;
-        cycles = e.cycles;
-        regions = e.regions;
-        unbuilt = e.unbuilt;
-      };
+    let profile = c.args.profile.now in
+    let taken : IsTaken c.args.elf.now profile image c.in-Some.entry = record {
+      is = record { clean = c.in_ok-image.ensures.sound; read = c.in_ok-image.ensures.image };
+      enters = sym c.entry_of.ensures ∙ c.in-Some.is;
+      apart = finds-none (IsClash image profile) c.clash_place.result c.in_default-clash_place.not-Some c.clash_place.ensures;
+      built = c.if-profile.false;
     } in
-    let apart = finds-none (IsClash image c.plain-profile.result) c.clash_place.result c.in_default.not-Some c.clash_place.ensures in
-    answers-refused c.args.elf.now image c.plain-profile.result c.analyse_program.result is apart c.analyse_program.ensures.refused
+    answers-refused c.args.elf.now profile image c.in-Some.entry c.analyse_program.result taken c.analyse_program.ensures.refused
 
 pub returns-clause-analysed : goal.returns-clause-analysed
 returns-clause-analysed c =
-    let e = c.plain-profile.ensures in
     let image = c.in_ok-image.image in
-    let is : IsReadAs c.args.elf.now image c.plain-profile.result = record {
-      fits = c.requires;
-      clean = c.in_ok-image.ensures.sound;
-      read = c.in_ok-image.ensures.image;
-      given = record {
-        memory = e.memory;
-        store = e.store;
-        splits = e.splits;
-        steps = e.steps;
-        stack_top = e.stack_top;
-        stack_size = e.stack_size;
-        gp = e.gp;
-        entry = e.entry;
-        cycles = e.cycles;
-        regions = e.regions;
-        unbuilt = e.unbuilt;
-      };
+    let profile = c.args.profile.now in
+    let taken : IsTaken c.args.elf.now profile image c.in-Some.entry = record {
+      is = record { clean = c.in_ok-image.ensures.sound; read = c.in_ok-image.ensures.image };
+      enters = sym c.entry_of.ensures ∙ c.in-Some.is;
+      apart = finds-none (IsClash image profile) c.clash_place.result c.in_default-clash_place.not-Some c.clash_place.ensures;
+      built = c.if-profile.false;
     } in
-    let apart = finds-none (IsClash image c.plain-profile.result) c.clash_place.result c.in_default.not-Some c.clash_place.ensures in
-    answers-analysed c.args.elf.now image c.plain-profile.result c.analyse_program.result is apart c.analyse_program.ensures.analysed
+    answers-analysed c.args.elf.now profile image c.in-Some.entry c.analyse_program.result taken c.analyse_program.ensures.analysed
