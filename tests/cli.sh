@@ -5,6 +5,7 @@ set -u
 top=$(cd "$(dirname "$0")/.." && pwd)
 trials=$(mktemp -d)
 trap 'rm -rf "$trials"' EXIT
+. "$top/tests/tally.sh"
 
 # Builds the program where it is missing or old. Its own answer to no words is one of the trials.
 "$top/wcet" 2>"$trials/build.log"
@@ -26,24 +27,11 @@ printf 'memory = 20\n' >slow.toml
 printf 'speed = 1\n' >speed.toml
 mkdir folder
 
-passed=0
-failed=0
-
 # What the program prints of a function that returns at once.
 once=$(printf 'bound 22\nreached 22\nvalue 1 1\nvalue 2 1\nleaf 1 1:22\nend')
 
 # The same where memory takes 20 cycles.
 twice=$(printf 'bound 42\nreached 42\nvalue 1 1\nvalue 2 1\nleaf 1 1:42\nend')
-
-# Counts a trial: its name, then what it gave, then what is wanted.
-check() {
-    if [ "$2" = "$3" ]; then
-        passed=$((passed + 1))
-    else
-        failed=$((failed + 1))
-        printf 'failed: %s\n  gave:   %q\n  wanted: %q\n' "$1" "$2" "$3"
-    fi
-}
 
 # Runs the program: the trial's name, the wanted status, output and error, then the words.
 trial() {

@@ -1,5 +1,23 @@
 -- Laws of the net of a program.
 pub mod Items
+-- Loop instances and scopes.
+mod Nodes
+mod AroundLaws
+mod AroundLists
+mod ScopeLists
+mod BodySearch
+mod Growing
+mod Parts
+-- Sizes and layout of the contexts.
+pub mod Bisection
+pub mod Places
+pub mod Numbering
+mod InstanceLists
+mod RoundLists
+mod CallScopes
+mod NetGround
+mod HeldUnits
+mod InstanceNet
 -- The net is nested.
 pub mod NetItems
 pub mod Numerals

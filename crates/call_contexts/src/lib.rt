@@ -1,8 +1,13 @@
 //! The net of a program: its functions in their contexts.
 #![tactic(auto)]
 
-mod program;
+mod around;
 mod fault;
+mod index;
+mod instances;
+mod layout;
+mod program;
+mod scopes;
 
-pub use program::expand;
 pub use fault::NetFault;
+pub use program::expand;

@@ -8,15 +8,14 @@ ghost use Rattle.mips_decode.specs.State.{State};
 ghost use Rattle.net_model.specs.Functions.{CanReturn};
 ghost use Rattle.net_model.specs.Net.{IsNet};
 ghost use Rattle.net_model.specs.Runs.{GoesAlong, IsKeptRun};
+ghost use Rattle.call_contexts.specs.Programs.{HasUnits, IsProgram, TellsFault};
+ghost use Rattle.call_contexts.specs.Sizes.{AreSizes, most_contexts, most_places};
 
 use crate::fault::NetFault;
 use flow_net::Net;
 use loop_nest::Nests;
 use std::alloc::Global;
 use unit_graph::Graphs;
-
-ghost use Rattle.call_contexts.specs.Programs.{HasUnits, IsProgram, TellsFault};
-ghost use Rattle.call_contexts.specs.Sizes.{AreSizes, most_contexts, most_places};
 
 /// The net of a program, from the graphs of its functions and their loops: each function has a context for each
 /// way by calls to it.

@@ -29,7 +29,7 @@ pub struct Place {
 }
 
 /// A way to a function by calls. Context 0 is the entry function, with 0 for parent and site.
-#[derive(Clone, Copy, Debug, PartialEq, Eq)]
+#[derive(Clone, Copy, Debug, PartialEq, Eq, Hash)]
 pub struct Context {
     /// The number of the context of the call.
     pub parent: u32,

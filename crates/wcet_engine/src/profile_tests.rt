@@ -219,26 +219,24 @@ fn answers_the_first_fault_of_both_files(rt: HostRuntime) -> Result<(), Fail> {
     Ok(())
 }
 
+/// A comment of this many bytes.
+fn comment(alloc: Global, length: usize) -> Result<Vec<u8>, AllocError> {
+    vec![in alloc; b'#'; length]
+}
+
 #[test]
 fn reads_the_files_in_the_order_of_the_words(rt: HostRuntime) -> Result<(), Fail> {
     let alloc = rt.alloc();
     let file = file_of(alloc, &[0x03E0_0008, 0])?;
-    let long = vec![in alloc; b'#'; 16_777_217]?;
+    let long = comment(alloc, 16_777_217)?;
+    let longest = comment(alloc, 16_777_216)?;
     let too_long = b"refused too-long 01000000\n".as_slice();
     let zed = b"zed = 1".as_slice();
     // A profile that is too long, and one of the greatest length, which is one comment.
     let got = answer_by(alloc, &["analyse", "f", "c"], &file, &long, &[])?;
     assert_eq!(rt; (got.0, got.1.as_slice()), (Status::Refused, too_long));
-    if long.len() > 16_777_216 {
-        let got = answer_by(
-            alloc,
-            &["analyse", "f", "c"],
-            &file,
-            &long[..16_777_216],
-            &[],
-        )?;
-        assert_eq!(rt; got.0, Status::Done);
-    }
+    let got = answer_by(alloc, &["analyse", "f", "c"], &file, &longest, &[])?;
+    assert_eq!(rt; got.0, Status::Done);
     // Behind a file that is too long or missing none is read.
     let got = answer_by(alloc, &["analyse", "f", "missing"], &long, zed, &[])?;
     assert_eq!(rt; (got.0, got.1.as_slice()), (Status::Refused, too_long));

@@ -1,0 +1,121 @@
+/* Records for the analyser, written in place in C. docs/FORMATS.md says what each kind of record means.
+ *
+ *     WCET_LOOP(turns);                    first in the body of a loop: from one entering of the loop to the next,
+ *                                          its body runs at most so often
+ *     value = WCET_LOAD(a[i], a);          reads a[i]; all its bytes lie in the array a
+ *     WCET_STORE(a[i], a, value);          writes a[i]; all its bytes lie in the array a
+ *     value = WCET_CALL(f, argument, g, h);   calls f, which is one of g and h (up to eight functions of one word)
+ *
+ * The compiler may copy code. Then a record would stand beside one copy alone, or land in another loop and bound that one.
+ * So each macro labels its instruction with a name of the file's own, numbered by __COUNTER__: a second copy defines
+ * the name a second time, and the assembler ends with "symbol `.Lwcet_0' is already defined". The flags of the Makefile
+ * keep the compiler from copying.
+ */
+#ifndef WCET_H
+#define WCET_H
+
+#define WCET_TEXT_(words) #words
+#define WCET_TEXT(words) WCET_TEXT_(words)
+
+/* The instruction that follows is number n of this file. */
+#define WCET_LABEL(n) ".Lwcet_" n ":\n\t"
+
+/* A record at number n. */
+#define WCET_RECORD(n, kind, x, y)                 \
+    ".pushsection .wcet, \"\", @progbits\n\t"      \
+    ".word " kind ", .Lwcet_" n ", " x ", " y "\n\t" \
+    ".popsection\n\t"
+
+/* Instructions that the assembler leaves where they stand. */
+#define WCET_KEPT(instructions) ".set push\n\t.set noreorder\n\t" instructions ".set pop\n\t"
+
+/* The header of a loop that tests at its head is visited once more than its body, so the record has one more. */
+#define WCET_LOOP(turns) WCET_LOOP_(WCET_TEXT(__COUNTER__), turns)
+#define WCET_LOOP_(n, turns)                                                          \
+    do {                                                                              \
+        _Static_assert((long long)(turns) >= 0 && (long long)(turns) < 0xFFFFFFFF, "turns of a loop"); \
+        __asm__ volatile(WCET_KEPT(WCET_LABEL(n) "nop\n\t") WCET_RECORD(n, "1", "%0", "0") \
+                         : : "i"((unsigned)(turns) + 1));                             \
+    } while (0)
+
+/* Whether a type has a sign; the array's first byte and the one behind its last. */
+#define WCET_SIGNED(place) ((__typeof__(place))-1 < (__typeof__(place))1)
+#define WCET_BYTES(array) "i"(array), "i"((char *)(array) + sizeof(array))
+
+/* A load has a slot of one instruction on MIPS I. */
+#define WCET_LOAD(place, array) WCET_LOAD_(WCET_TEXT(__COUNTER__), place, array)
+#define WCET_LOAD_(n, place, array)                                                   \
+    ({                                                                                \
+        __typeof__((place) + 0) wcet_value;                                           \
+        __asm__ volatile(WCET_KEPT(WCET_LABEL(n)                                      \
+                                   ".if %c2 == 4\n\tlw %0, %1\n\t"                    \
+                                   ".elseif %c2 == 2 && %c3\n\tlh %0, %1\n\t"         \
+                                   ".elseif %c2 == 2\n\tlhu %0, %1\n\t"               \
+                                   ".elseif %c2 == 1 && %c3\n\tlb %0, %1\n\t"         \
+                                   ".elseif %c2 == 1\n\tlbu %0, %1\n\t"               \
+                                   ".else\n\t.error \"no load of this size\"\n\t.endif\n\t" \
+                                   "nop\n\t")                                         \
+                         WCET_RECORD(n, "3", "%4", "%5")                              \
+                         : "=r"(wcet_value)                                           \
+                         : "R"(place), "i"(sizeof(place)), "i"(WCET_SIGNED(place)), WCET_BYTES(array)); \
+        wcet_value;                                                                   \
+    })
+
+#define WCET_STORE(place, array, value) WCET_STORE_(WCET_TEXT(__COUNTER__), place, array, value)
+#define WCET_STORE_(n, place, array, value)                                           \
+    do {                                                                              \
+        __typeof__(place) wcet_value = (value);                                       \
+        __asm__ volatile(WCET_KEPT(WCET_LABEL(n)                                      \
+                                   ".if %c2 == 4\n\tsw %1, %0\n\t"                    \
+                                   ".elseif %c2 == 2\n\tsh %1, %0\n\t"                \
+                                   ".elseif %c2 == 1\n\tsb %1, %0\n\t"                \
+                                   ".else\n\t.error \"no store of this size\"\n\t.endif\n\t") \
+                         WCET_RECORD(n, "3", "%3", "%4")                              \
+                         : "=R"(place)                                                \
+                         : "r"(wcet_value), "i"(sizeof(place)), WCET_BYTES(array));   \
+    } while (0)
+
+/* An indirect call with one word as its argument and its result. 16 bytes of the stack are the callee's, for its
+ * arguments. All registers that a callee may change are told to the compiler. */
+#define WCET_CALL(function, argument, ...) \
+    WCET_CALL_(WCET_TEXT(__COUNTER__), WCET_COUNT(__VA_ARGS__), function, argument, __VA_ARGS__)
+#define WCET_CALL_(n, count, function, argument, ...)                                 \
+    ({                                                                                \
+        long wcet_f = (long)(function), wcet_a = (long)(argument);                    \
+        register long wcet_25 __asm__("$25") = wcet_f;                                \
+        register long wcet_4 __asm__("$4") = wcet_a;                                  \
+        register long wcet_2 __asm__("$2");                                           \
+        __asm__ volatile(WCET_KEPT("addiu $29, $29, -16\n\t" WCET_LABEL(n)            \
+                                   "jalr $25\n\tnop\n\t"                              \
+                                   "addiu $29, $29, 16\n\t")                          \
+                         WCET_JOIN(WCET_GOES_, count)(n)                              \
+                         : "=r"(wcet_2), "+r"(wcet_25), "+r"(wcet_4)                  \
+                         : WCET_JOIN(WCET_EACH_, count)(__VA_ARGS__)                  \
+                         : "$1", "$3", "$5", "$6", "$7", "$8", "$9", "$10", "$11", "$12", "$13", \
+                           "$14", "$15", "$24", "$31", "hi", "lo", "memory");         \
+        wcet_2;                                                                       \
+    })
+
+/* How many targets there are, a record for each, and the operand of each. */
+#define WCET_JOIN_(front, back) front##back
+#define WCET_JOIN(front, back) WCET_JOIN_(front, back)
+#define WCET_EIGHTH(a, b, c, d, e, f, g, h, count, ...) count
+#define WCET_COUNT(...) WCET_EIGHTH(__VA_ARGS__, 8, 7, 6, 5, 4, 3, 2, 1, 0)
+#define WCET_GOES_1(n) WCET_RECORD(n, "2", "%[wcet_t1]", "0")
+#define WCET_GOES_2(n) WCET_GOES_1(n) WCET_RECORD(n, "2", "%[wcet_t2]", "0")
+#define WCET_GOES_3(n) WCET_GOES_2(n) WCET_RECORD(n, "2", "%[wcet_t3]", "0")
+#define WCET_GOES_4(n) WCET_GOES_3(n) WCET_RECORD(n, "2", "%[wcet_t4]", "0")
+#define WCET_GOES_5(n) WCET_GOES_4(n) WCET_RECORD(n, "2", "%[wcet_t5]", "0")
+#define WCET_GOES_6(n) WCET_GOES_5(n) WCET_RECORD(n, "2", "%[wcet_t6]", "0")
+#define WCET_GOES_7(n) WCET_GOES_6(n) WCET_RECORD(n, "2", "%[wcet_t7]", "0")
+#define WCET_GOES_8(n) WCET_GOES_7(n) WCET_RECORD(n, "2", "%[wcet_t8]", "0")
+#define WCET_EACH_1(a) [wcet_t1] "i"(a)
+#define WCET_EACH_2(a, ...) [wcet_t2] "i"(a), WCET_EACH_1(__VA_ARGS__)
+#define WCET_EACH_3(a, ...) [wcet_t3] "i"(a), WCET_EACH_2(__VA_ARGS__)
+#define WCET_EACH_4(a, ...) [wcet_t4] "i"(a), WCET_EACH_3(__VA_ARGS__)
+#define WCET_EACH_5(a, ...) [wcet_t5] "i"(a), WCET_EACH_4(__VA_ARGS__)
+#define WCET_EACH_6(a, ...) [wcet_t6] "i"(a), WCET_EACH_5(__VA_ARGS__)
+#define WCET_EACH_7(a, ...) [wcet_t7] "i"(a), WCET_EACH_6(__VA_ARGS__)
+#define WCET_EACH_8(a, ...) [wcet_t8] "i"(a), WCET_EACH_7(__VA_ARGS__)
+
+#endif

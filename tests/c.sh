@@ -1,0 +1,135 @@
+#!/usr/bin/env bash
+# The programs of examples/c: built, run by QEMU, and analysed. Each bound is compared with the value in the program's sheet
+# (examples/c/sums), which was added up by hand from the disassembly, and with the cycles of the traced run.
+# The sheet holds for one compiler and one checksum of the code; for other code the test says so, and asks only that the
+# bound is at least the run's cycles.
+#
+# Usage: tests/c.sh [WORD ..], the words for make, as CFLAGS=-O2. WCET names another program than ./wcet.
+# It installs Debian's compiler and QEMU where they are missing, and skips where they can't be had.
+# The last line is 'N passed, N failed'; the status is 0 only where none failed.
+set -u
+top=$(cd "$(dirname "$0")/.." && pwd)
+wcet=${WCET:-$top/wcet}
+cycles=$top/tests/cycles.py
+profile=$top/examples/profiles/plain.toml
+work=$(mktemp -d)
+trap 'rm -rf "$work"' EXIT
+. "$top/tests/tally.sh"
+
+is_there() {
+    command -v "$1" >/dev/null
+}
+
+if ! is_there mips-linux-gnu-gcc || ! is_there qemu-mips || ! is_there make; then
+    export DEBIAN_FRONTEND=noninteractive
+    timeout 180 apt-get update >"$work/apt.log" 2>&1
+    timeout 180 apt-get install -y --no-install-recommends gcc-mips-linux-gnu binutils-mips-linux-gnu qemu-user make \
+        >>"$work/apt.log" 2>&1
+fi
+if ! is_there mips-linux-gnu-gcc || ! is_there make; then
+    echo 'skipped: no compiler for MIPS'
+    exit 0
+fi
+is_there qemu-mips || echo 'skipped: the runs, without QEMU for MIPS'
+single=-singlestep
+qemu-mips -help 2>/dev/null | grep -q one-insn-per-tb && single=-one-insn-per-tb
+
+# Builds into the trials' folder: a log's name, then words for make.
+build() {
+    local log=$work/$1
+    shift
+    make -s -C "$top/examples/c" OUT="$work" VPATH="$top/tests/c" "$@" >"$log" 2>&1
+}
+
+# What a line of a sheet says: the program, then the line's first word.
+told() {
+    sed -n "s/^$2  *//p" "$top/examples/c/sums/$1.txt"
+}
+
+# Analyses a program: its bound comes to stand in `bound`.
+analyse() {
+    "$wcet" bound "$work/$1.elf" "$profile" >"$work/bound" 2>"$work/error"
+    check "$1: status" "$? $(cat "$work/error")" "0 "
+    bound=$(sed -n '1s/^bound //p' "$work/bound")
+    check "$1: a bound" "$(grep -c '^[1-9][0-9]*$' <<<"$bound")" 1
+}
+
+# Compares the bound with the program's sheet, where that holds for this code.
+compare_with_sheet() {
+    local elf=$work/$1.elf sheet=$top/examples/c/sums/$1.txt
+    if [ "$("$cycles" code "$elf")" != "$(told "$1" code)" ] || [ "$compiler" != "$(told "$1" compiler)" ]; then
+        echo "$1: other code than its sheet's, so its bound is compared with the run alone"
+        return
+    fi
+    check "$1: the sheet's sum" "$("$cycles" sum "$elf" "$sheet")" "$(told "$1" value)"
+    check "$1: the bound" "$bound" "$(told "$1" value)"
+}
+
+# Compares the bound with a traced run: the program, then the result that the run must have.
+compare_with_run() {
+    local run
+    is_there qemu-mips || return
+    qemu-mips $single -d exec,nochain -D "$work/trace" "$work/$1.elf"
+    check "$1: the run's result" "$?" "$2"
+    run=$("$cycles" run "$work/$1.elf" "$work/trace")
+    check "$1: cycles of the run" "$(grep -c '^[1-9][0-9]*$' <<<"$run")" 1
+    check "$1: the run's $run cycles are at most the bound" "$((run <= bound))" 1
+    echo "$1: bound $bound, run $run"
+}
+
+# Builds the analyser where it is missing or old.
+"$wcet" >"$work/analyser.log" 2>&1
+if [ $? -ne 1 ]; then
+    cat "$work/analyser.log"
+    echo '0 passed, 1 failed'
+    exit 1
+fi
+
+compiler=$(mips-linux-gnu-gcc --version | head -n 1)
+for name in sort crc matrix crossing find levels; do
+    build "$name.log" "$@" "$work/$name.elf"
+    check "$name: built" "$? $(grep -v '^\(loop\|access\|target\) ' "$work/$name.log")" "0 "
+    [ -e "$work/$name.elf" ] || continue
+    analyse "$name"
+    compare_with_sheet "$name"
+    compare_with_run "$name" "$(told "$name" result)"
+done
+
+# Every width of access and every number of targets that wcet.h has. The result is how many values are wrong.
+build widths.log "$@" "$work/widths.elf"
+check "widths: built" "$? $(grep -v '^\(loop\|access\|target\) ' "$work/widths.log")" "0 "
+if [ -e "$work/widths.elf" ]; then
+    analyse widths
+    compare_with_run widths 0
+fi
+
+# A profile with a cache.
+"$wcet" bound "$work/sort.elf" "$top/examples/profiles/fetch-cache.toml" >"$work/bound" 2>"$work/error"
+check "a cache, which isn't taken yet" "$? $(cat "$work/bound" "$work/error")" "2 refused unbuilt 00000000"
+
+# With the flags of the Makefile these programs are built; without them the compiler copies their records, and that is
+# an error of the assembler.
+for name in inlined unrolled; do
+    build "$name.log" "$work/$name.o"
+    check "$name.c with the flags of the Makefile" "$? $(cat "$work/$name.log")" "0 "
+    rm -f "$work/$name.o"
+done
+if [ "$compiler" = "$(told sort compiler)" ]; then
+    build inlined.log STEADY= CFLAGS='-I. -O2' "$work/inlined.o"
+    check "a record copied by inlining: status" "$?" 2
+    check "a record copied by inlining" "$(grep -c 'symbol `.Lwcet_0. is already defined' "$work/inlined.log")" 1
+    build unrolled.log STEADY= CFLAGS='-I. -O3' "$work/unrolled.o"
+    check "a record copied by unrolling: status" "$?" 2
+    check "a record copied by unrolling" "$(grep -c 'symbol `.Lwcet_0. is already defined' "$work/unrolled.log")" 2
+
+    # A record whose loop the compiler dissolved bounds another loop, and the look at the records tells it.
+    build dissolved.log "$work/dissolved.elf"
+    check "a record whose loop was dissolved: status" "$?" 2
+    check "a record whose loop was dissolved" \
+        "$(grep -c '^fault: the record at .* bounds it too$' "$work/dissolved.log")" 1
+else
+    echo "another compiler than the sheets', so what it copies and dissolves isn't looked at"
+fi
+
+echo "$passed passed, $failed failed"
+[ "$failed" -eq 0 ]

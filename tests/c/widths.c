@@ -1,0 +1,61 @@
+/* Loads and stores of each width, and calls with one target and with eight. It returns how many of them are wrong. */
+#include "wcet.h"
+
+static signed char tiny[4];
+static unsigned char bytes[4];
+static short halves[4];
+static const unsigned short *const places[2] = {(const unsigned short *)halves, (const unsigned short *)halves + 3};
+static int words[4];
+static struct { int first; unsigned short second[3]; } record;
+
+static int wrong(int gave, int wanted)
+{
+    return gave != wanted;
+}
+
+static int accesses(int at)
+{
+    WCET_STORE(tiny[at], tiny, -3);
+    WCET_STORE(bytes[at], bytes, 0xFD);
+    WCET_STORE(halves[at], halves, -30000);
+    WCET_STORE(words[at], words, -2000000000);
+    WCET_STORE(record.second[at - 1], record.second, 0xFEDC);
+    return wrong(WCET_LOAD(tiny[at], tiny), -3) + wrong(WCET_LOAD(bytes[at], bytes), 0xFD) +
+           wrong(WCET_LOAD(halves[at], halves), -30000) + wrong(WCET_LOAD(words[at], words), -2000000000) +
+           wrong(WCET_LOAD(record.second[at - 1], record.second), 0xFEDC) +
+           wrong(*WCET_LOAD(places[at - 2], places), (unsigned short)-30000) +
+           wrong(tiny[at] + bytes[at], 250) + wrong(halves[at], -30000) + wrong(record.second[at - 1], 0xFEDC);
+}
+
+/* Each changes its argument's place on the stack too, as a callee may. */
+#define ADDING(name, number)            \
+    static int name(volatile int value) \
+    {                                   \
+        value += number;                \
+        return value;                   \
+    }
+ADDING(one, 1)
+ADDING(two, 2)
+ADDING(three, 3)
+ADDING(four, 4)
+ADDING(five, 5)
+ADDING(six, 6)
+ADDING(seven, 7)
+ADDING(eight, 8)
+
+static int (*const adding[])(int) = {one, two, three, four, five, six, seven, eight};
+
+static int calls(int from)
+{
+    int sum = WCET_CALL(adding[0], from, one);
+    for (int i = 0; i < 8; i++) {
+        WCET_LOOP(8);
+        sum = WCET_CALL(adding[i], sum, one, two, three, four, five, six, seven, eight);
+    }
+    return wrong(sum, from + 37);
+}
+
+int task(void)
+{
+    return accesses(3) + calls(5);
+}
