@@ -1,12 +1,13 @@
 #!/usr/bin/env python3
-"""The certificates that the built program prints, tested with big numbers against programs written out by hand.
+"""The certificates that the built program prints, tested with big numbers against flow programs of their own.
 
 usage: tests/certificate.py PROGRAM
 
 Each program stands here with the words and records of its file, and beside them its columns, rows, values and
-caps, worked out by hand. The text must be of the lines `bound` to `end`; its counts must meet every row and have
-the value `reached`; its leaf must show the bound; each number on the way must fit 128 signed bits. Then each rule is
-tried on a text that breaks it. The last line is 'N passed, N failed'; the status is 0 only where none failed.
+caps, worked out by hand; those of programs with calls are made by flow_program.py, which is tried on the others. The
+text must be of the lines `bound` to `end`; its counts must meet every row and have the value `reached`; its leaf must
+show the bound; each number on the way must fit 128 signed bits. Then each rule is tried on a text that breaks it. The
+last line is 'N passed, N failed'; the status is 0 only where none failed.
 """
 import re
 import struct
@@ -15,8 +16,8 @@ import sys
 import tempfile
 import os
 
-START = 0x00400000
-EQUAL, MOST = "=", "<="
+from call_programs import WORKED, made
+from flow_program import EQUAL, MOST, START, Program, flow_program
 
 
 def elf(words, records):
@@ -37,14 +38,6 @@ def elf(words, records):
     sections += struct.pack(">10I", 1, 1, 0, 0, at, len(marks), 0, 0, 0, 0)
     sections += struct.pack(">10I", 7, 3, 0, 0, at + len(marks), len(names), 0, 0, 0, 0)
     return header + segment + code + marks + names + sections
-
-
-class Program:
-    """A flow program: rows of (relation, {column: factor}, right side), a value and a cap for each column."""
-
-    def __init__(self, rows, values, caps):
-        self.rows, self.values, self.caps = rows, values, caps
-        self.columns = len(values)
 
 
 def counted_loop(bound):
@@ -130,6 +123,11 @@ BOUNDS = [
     ("a loop left from its middle", LEFT, [(1, START, 4, 0)], 4 * 33 + 3 * 22 + 22),
     ("a loop with a dead end", DEAD_END, [(1, START, 3, 0)], 3 * 55 + 22),
 ]
+
+# Programs with calls: name, words, records, and the bound where it was worked out by hand. Their flow programs are made
+# by flow_program.py.
+SEEDS = (0, 1, 2, 4, 5, 6, 7, 8, 9, 10, 12, 13, 15, 19)
+CALLS = WORKED + [(f"program {seed} with calls", *made(seed), None) for seed in SEEDS]
 
 NATURAL = r"(0|[1-9][0-9]*)"
 WHOLE = r"(0|-?[1-9][0-9]*)"
@@ -323,6 +321,40 @@ class Tally:
         print(f"failed: {name}\n  gave:   {gave!r}\n  wanted: {wanted!r}")
 
 
+def analysed(tally, program, path, name, words, records):
+    """What the program prints for an executable of these words and records."""
+    with open(path, "wb") as file:
+        file.write(elf(words, records))
+    run = subprocess.run([program, "analyse", path], capture_output=True, text=True, check=False)
+    tally.check(f"{name}: status", (run.returncode, run.stderr), (0, ""))
+    return run.stdout
+
+
+def try_whole(tally, text, name, flow, bound, counts):
+    """The text breaks no rule for the flow program, and its counts have the bound for their value."""
+    rule = broken(flow, text)
+    tally.check(f"{name}: rules", rule, None)
+    if rule is not None:
+        return
+    printed = Certificate(text)
+    tally.check(f"{name}: reached", printed.reached, printed.bound)
+    if bound is not None:
+        tally.check(f"{name}: bound", printed.bound, bound)
+    if counts is not None:
+        tally.check(f"{name}: counts", printed.counts, counts)
+    tally.check(f"{name}: nodes", len(printed.tree), 1)
+
+
+def try_bound(tally, text, name, bound):
+    """The text is a certificate with this bound, which its counts reach."""
+    try:
+        printed = Certificate(text)
+    except Broken:
+        tally.check(f"{name}: text", text, "a certificate")
+        return
+    tally.check(f"{name}: bound and reached", (printed.bound, printed.reached), (bound, bound))
+
+
 def main(program):
     tally = Tally()
     _, _, loop = counted_loop(5)
@@ -331,28 +363,16 @@ def main(program):
     with tempfile.TemporaryDirectory() as folder:
         path = os.path.join(folder, "file")
         for name, (words, records, flow), bound, counts in TRIALS:
-            with open(path, "wb") as file:
-                file.write(elf(words, records))
-            run = subprocess.run([program, "analyse", path], capture_output=True, text=True, check=False)
-            tally.check(f"{name}: status", (run.returncode, run.stderr), (0, ""))
-            rule = broken(flow, run.stdout)
-            tally.check(f"{name}: rules", rule, None)
-            if rule is None:
-                printed = Certificate(run.stdout)
-                tally.check(f"{name}: bound and reached", (printed.bound, printed.reached), (bound, bound))
-                tally.check(f"{name}: counts", printed.counts, counts)
-                tally.check(f"{name}: nodes", len(printed.tree), 1)
+            made_flow = flow_program(words, records)
+            for part in ("rows", "values", "caps"):
+                tally.check(f"{name}: {part} by hand", getattr(made_flow, part), getattr(flow, part))
+            text = analysed(tally, program, path, name, words, records)
+            try_whole(tally, text, name, flow, bound, counts)
         for name, words, records, bound in BOUNDS:
-            with open(path, "wb") as file:
-                file.write(elf(words, records))
-            run = subprocess.run([program, "analyse", path], capture_output=True, text=True, check=False)
-            tally.check(f"{name}: status", (run.returncode, run.stderr), (0, ""))
-            try:
-                printed = Certificate(run.stdout)
-            except Broken:
-                tally.check(f"{name}: text", run.stdout, "a certificate")
-                continue
-            tally.check(f"{name}: bound and reached", (printed.bound, printed.reached), (bound, bound))
+            try_bound(tally, analysed(tally, program, path, name, words, records), name, bound)
+        for name, words, records, bound in CALLS:
+            text = analysed(tally, program, path, name, words, records)
+            try_whole(tally, text, name, flow_program(words, records), bound, None)
     print(f"{tally.passed} passed, {tally.failed} failed")
     return 0 if tally.failed == 0 else 1
 

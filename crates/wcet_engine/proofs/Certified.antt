@@ -1,36 +1,55 @@
--- What the certificate of a net says of the entry function.
-use Rattle.std.proofs.Common.{ℕ, get_or, Result, Ok, Err, IfOk, IfErr, refl}
-use Rattle.cache_config.specs.declared.profile.Profile.{Profile}
+-- What the solver asks of a program's net.
+use Rattle.std.proofs.Common.{ℕ, zero, suc, ◌+◌, ◌^◌, ◌<◌, ◌≤◌, List, [], ◌∷◌, length, get_or, AllPairs, arith}
+use Rattle.std.proofs.lemmas.Option.{slice_get-get_or}
+use Rattle.call_contexts.specs.Programs.{HasUnits}
+use Rattle.call_contexts.specs.Sizes.{most_places}
+use Rattle.call_contexts.proofs.NetItems.{place-positive, place-within}
 use Rattle.elf_mips.specs.declared.image.Image.{Image}
+use Rattle.flow_net.specs.declared.net.LoopInst.{LoopInst}
 use Rattle.flow_net.specs.declared.net.Net.{Net}
 use Rattle.ipet_program.specs.Programs.{FitsImage}
-use Rattle.ipet_program.specs.declared.certificate.Certificate.{Certificate}
-use Rattle.net_model.specs.Faults.{HasNoFault}
+use Rattle.nest_solver.specs.Tables.{IsFew}
 use Rattle.net_model.specs.Net.{IsNet}
-use Rattle.net_model.specs.Targets.{unit_at}
-use Rattle.wcet_engine.specs.declared.analysis.Refused.{Refused}
-use Rattle.wcet_engine.specs.declared.analysis.Refused.TheVariants.{Fault, Memory}
-use Rattle.wcet_engine.specs.Code.{Certifies, IsCertified, TellsLargeNet, TellsTooLarge}
-use Rattle.wcet_engine.proofs.Following.{code-stands}
-
-pub certified : (image : Image) (profile : Profile) (entry : ℕ) (net : Net) → IsNet image entry net → (result : Result Certificate Refused) →
-    IfOk result (Certifies image profile net) → IfOk result (IsCertified image profile entry)
-certified image profile entry net is (Ok certificate) certifies = record { net = net; is_net = is; certifies = certifies }
-certified image profile entry net is (Err refused) told = told
-
-large-net : (image : Image) (profile : Profile) (entry : ℕ) (net : Net) → IsNet image entry net → (refused : Refused) →
-    TellsLargeNet image profile entry net refused → TellsTooLarge image profile entry refused
-large-net image profile entry net is (Fault refusal) told = (told.0, record { net = net; is_net = is; large = told.1 })
-large-net image profile entry net is Memory told = tt
-
-pub too-large : (image : Image) (profile : Profile) (entry : ℕ) (net : Net) → IsNet image entry net → (result : Result Certificate Refused) →
-    IfErr result (TellsLargeNet image profile entry net) → IfErr result (TellsTooLarge image profile entry)
-too-large image profile entry net is (Ok certificate) told = told
-too-large image profile entry net is (Err refused) told = large-net image profile entry net is refused told
+use Rattle.net_model.proofs.Followed.{unit-content}
 
 -- The places of a net are units without a fault.
-pub fits-image : (image : Image) (entry : ℕ) (net : Net) → IsNet image entry net → HasNoFault image entry → FitsImage image net
-fits-image image entry net is faultless = λ k d inside.
-    let unit = code-stands image entry (get_or net.places k d).address faultless (is.reached k d inside)
-    (unit_at image (get_or net.places k d).address) refl in
-    record { unit = unit.0; stands = unit.1 }
+pub fits-image : (image : Image) (net : Net) → HasUnits image net → FitsImage image net
+fits-image image net units = λ k d inside.
+    let unit = units k d inside in
+    record { unit = unit.unit; stands = unit-content image (get_or net.places k d).address unit.unit unit.stands }
+
+-- Headers rise from 1 on: the one at a position is greater than the position.
+headers-risen : (loops : List LoopInst) → AllPairs (λ (a b : LoopInst). a.header < b.header) loops →
+    ((k : ℕ) (d : LoopInst) → k < length loops → 1 ≤ (get_or loops k d).header) →
+    (k : ℕ) (d : LoopInst) → k < length loops → k + 1 ≤ (get_or loops k d).header
+headers-risen loops rise some zero d inside = some zero d inside
+headers-risen loops rise some (suc k) d inside =
+    let before = headers-risen loops rise some k d (omega (arith, inside)) in
+    let up = rise k (suc k) d (omega arith) inside in
+    omega (arith, before, up)
+
+-- A net has no more loop instances than places, since each has a header of its own.
+loops-by : (loops : List LoopInst) (most : ℕ) → AllPairs (λ (a b : LoopInst). a.header < b.header) loops →
+    ((k : ℕ) (d : LoopInst) → k < length loops → (1 ≤ (get_or loops k d).header) × ((get_or loops k d).header ≤ most)) →
+    length loops ≤ most
+loops-by [] most rise each = omega arith
+loops-by (inst ∷ more) most rise each =
+    let last = headers-risen (inst ∷ more) rise (λ k d inside. (each k d inside).0) (length more) inst (omega arith) in
+    let top = (each (length more) inst (omega arith)).1 in
+    omega (arith, last, top)
+
+loops-few : (image : Image) (entry : ℕ) (net : Net) → IsNet image entry net → length net.loops ≤ length net.places
+loops-few image entry net is =
+    loops-by net.loops (length net.places) is.loops.rising
+    (λ k d inside.
+        let inst = is.loops.each (suc k) (get_or net.loops k d) (slice_get-get_or net.loops k d inside) in (
+          place-positive net (get_or net.loops k d).header inst.context inst.header inst.at,
+          place-within net (get_or net.loops k d).header inst.context inst.header inst.at,
+        ))
+
+-- The lists of the net are within the limits of the solver.
+pub few-of : (image : Image) (entry : ℕ) (net : Net) → IsNet image entry net → length net.arcs ≤ 2 ^ 25 → length net.places ≤ most_places →
+    IsFew net
+few-of image entry net is arcs places =
+    let loops = loops-few image entry net is in
+    record { arcs = arcs; places = omega (arith, places); loops = omega (arith, places, loops) }

@@ -1,5 +1,5 @@
 -- Which faults an address can hold, and the first fault of the code and its loops.
-use Rattle.std.proofs.Common.{◌≡◌, ℕ, ◌+◌, ◌<◌, ◌&&◌, Bool, true, false, cond, List, Option, Some, None, refl, sym, ap, subst, ◌∙◌, arith}
+use Rattle.std.proofs.Common.{◌≡◌, ℕ, ◌+◌, ◌<◌, ◌&&◌, Bool, true, false, cond, Some, None, refl, subst, arith}
 use Rattle.elf_mips.specs.declared.image.Image.{Image}
 use Rattle.elf_mips.specs.Segments.{code_at, is_writable_word}
 use Rattle.loop_nest.specs.Programs.{TellsKindIn, TellsFault as TellsLoops}
@@ -14,10 +14,12 @@ use Rattle.net_model.specs.declared.unit.Content.TheVariants.{Unit as Stands, Fa
 use Rattle.net_model.specs.Faults.{HasNoFault, IsFirstFault, Offends, faulty, recursive, rank as code_rank}
 use Rattle.net_model.specs.Targets.{is_none, linked_content, links_elsewhere, targets_at}
 use Rattle.net_model.specs.Units.{Word, Holds, Lacks, content_at, content_of, is_transfer, known, with_slot, word_at}
-use Rattle.wcet_engine.specs.Code.{AreLoops, IsCodeRefusal, TellsCode}
+use Rattle.wcet_engine.specs.Stages.{IsCodeRefusal, TellsCode}
 use Rattle.wcet_engine.specs.ProgramFaults.{IsCodeFault, refused_by}
 use Rattle.unit_graph.specs.Graphs.{TellsFault as TellsWords}
 use Rattle.unit_graph.specs.declared.fault.CodeFault.{CodeFault}
+use Rattle.unit_graph.specs.declared.graph.Graphs.{Graphs}
+use Rattle.call_contexts.specs.Programs.{IsProgram}
 use Rattle.unit_graph.specs.declared.fault.CodeFault.TheVariants.{Bad, Memory}
 use Rattle.wcet_engine.specs.Refusals.{kind_of_code}
 use Rattle.wcet_engine.proofs.ProgramLoops.{none-irreducible, none-unbounded}
@@ -153,16 +155,16 @@ loop-refusal image entry code.LinkRegister place faultless told = absurd told
 loop-refusal image entry code.Recursion place faultless told = absurd told
 
 -- Code without a fault whose loops are known has none of its kinds.
-pub code-faultless : (image : Image) (entry : ℕ) (nests : Nests) → HasNoFault image entry → AreLoops image entry nests →
+pub code-faultless : (image : Image) (entry : ℕ) (graphs : Graphs) (nests : Nests) → IsProgram image entry graphs nests →
     (kind : CodeKind) (place : ℕ) → IsCodeFault kind image entry place → ⊥
-code-faultless image entry nests faultless are code.Irreducible place fault = none-irreducible image entry nests are place fault
-code-faultless image entry nests faultless are code.NoBound place fault = none-unbounded image entry nests are place fault
-code-faultless image entry nests faultless are code.WritableCode place fault = faultless code.WritableCode place fault
-code-faultless image entry nests faultless are code.UnknownWord place fault = faultless code.UnknownWord place fault
-code-faultless image entry nests faultless are code.TransferInSlot place fault = faultless code.TransferInSlot place fault
-code-faultless image entry nests faultless are code.UnknownTarget place fault = faultless code.UnknownTarget place fault
-code-faultless image entry nests faultless are code.LinkRegister place fault = faultless code.LinkRegister place fault
-code-faultless image entry nests faultless are code.Recursion place fault = faultless code.Recursion place fault
+code-faultless image entry graphs nests are code.Irreducible place fault = none-irreducible image entry graphs nests are place fault
+code-faultless image entry graphs nests are code.NoBound place fault = none-unbounded image entry graphs nests are place fault
+code-faultless image entry graphs nests are code.WritableCode place fault = are.faultless code.WritableCode place fault
+code-faultless image entry graphs nests are code.UnknownWord place fault = are.faultless code.UnknownWord place fault
+code-faultless image entry graphs nests are code.TransferInSlot place fault = are.faultless code.TransferInSlot place fault
+code-faultless image entry graphs nests are code.UnknownTarget place fault = are.faultless code.UnknownTarget place fault
+code-faultless image entry graphs nests are code.LinkRegister place fault = are.faultless code.LinkRegister place fault
+code-faultless image entry graphs nests are code.Recursion place fault = are.faultless code.Recursion place fault
 
 -- What the errors of both stages tell.
 pub word-tells : (image : Image) (entry : ℕ) (fault : CodeFault) → TellsWords image entry fault → TellsCode image entry (refused_by fault)

@@ -1,6 +1,6 @@
 -- The faults of the lengths and of the profile's text.
-use Rattle.std.proofs.Common.{◌≡◌, ℕ, ◌<◌, List, ◌∷◌, length, All, Contains, Some, true, refl, sym, subst, ◌∙◌, arith}
-use Rattle.std.specs.Prelude.{Bool, false}
+use Rattle.std.proofs.Common.{◌≡◌, ℕ, ◌<◌, List, Contains, Some, true, refl, sym, subst, ◌∙◌, arith}
+use Rattle.std.specs.Prelude.{false}
 use Rattle.std.specs.Ordering.{is_lt, nat_cmp}
 use Rattle.std.specs.Cmp.Lexicographic.{slice_cmp}
 use Rattle.cache_config.specs.Faults.{is_before, key_fault, profile_faults, range_fault}
@@ -8,7 +8,7 @@ use Rattle.cache_config.specs.Profiles.{Tells}
 use Rattle.cache_config.specs.declared.fault.ConfigFault.{ConfigFault}
 use Rattle.cache_config.specs.declared.fault.ConfigFault.TheVariants as config_fault
 use Rattle.wcet_engine.specs.declared.refusal.RefusalKind.{RefusalKind}
-use Rattle.wcet_engine.specs.declared.refusal.RefusalKind.TheVariants.{TooLong, ConfigText, ConfigKey, ConfigRange, Short, NotElf, NotThisKind, BadTable, BadSegment, BadSection, BadRecord, NoSymbol, RegionClash, Unbuilt, Unfollowed, WritableCode, UnknownWord, TransferInSlot, UnknownTarget, LinkRegister, Recursion, Irreducible, NoBound, NeverReturns, BoundTooLarge}
+use Rattle.wcet_engine.specs.declared.refusal.RefusalKind.TheVariants.{TooLong, ConfigText, ConfigKey, ConfigRange, Short, NotElf, NotThisKind, BadTable, BadSegment, BadSection, BadRecord, NoSymbol, RegionClash, Unbuilt, WritableCode, UnknownWord, TransferInSlot, UnknownTarget, LinkRegister, Recursion, Irreducible, NoBound, NeverReturns, TooManyUnits, BoundTooLarge}
 use Rattle.wcet_engine.specs.declared.refusal.Spot.{Spot}
 use Rattle.wcet_engine.specs.declared.refusal.Spot.TheVariants.{Number, Key}
 use Rattle.wcet_engine.specs.Faults.{HasKeyFault, HasRangeFault, IsFirstFault, IsLess, IsNoDocument, Offends, TellsFault, refused_for}
@@ -45,7 +45,6 @@ before-text files fits BadRecord spot earlier offends = absurd (omega (arith, ea
 before-text files fits NoSymbol spot earlier offends = absurd (omega (arith, earlier))
 before-text files fits RegionClash spot earlier offends = absurd (omega (arith, earlier))
 before-text files fits Unbuilt spot earlier offends = absurd (omega (arith, earlier))
-before-text files fits Unfollowed spot earlier offends = absurd (omega (arith, earlier))
 before-text files fits WritableCode spot earlier offends = absurd (omega (arith, earlier))
 before-text files fits UnknownWord spot earlier offends = absurd (omega (arith, earlier))
 before-text files fits TransferInSlot spot earlier offends = absurd (omega (arith, earlier))
@@ -55,6 +54,7 @@ before-text files fits Recursion spot earlier offends = absurd (omega (arith, ea
 before-text files fits Irreducible spot earlier offends = absurd (omega (arith, earlier))
 before-text files fits NoBound spot earlier offends = absurd (omega (arith, earlier))
 before-text files fits NeverReturns spot earlier offends = absurd (omega (arith, earlier))
+before-text files fits TooManyUnits spot earlier offends = absurd (omega (arith, earlier))
 before-text files fits BoundTooLarge spot earlier offends = absurd (omega (arith, earlier))
 
 first-text : (files : Given) → Fits files → IsNoDocument files.config → IsFirstFault files (at_number ConfigText 0)
@@ -124,7 +124,6 @@ before-key elf text path fits first BadRecord spot earlier offends = absurd (ome
 before-key elf text path fits first NoSymbol spot earlier offends = absurd (omega (arith, earlier))
 before-key elf text path fits first RegionClash spot earlier offends = absurd (omega (arith, earlier))
 before-key elf text path fits first Unbuilt spot earlier offends = absurd (omega (arith, earlier))
-before-key elf text path fits first Unfollowed spot earlier offends = absurd (omega (arith, earlier))
 before-key elf text path fits first WritableCode spot earlier offends = absurd (omega (arith, earlier))
 before-key elf text path fits first UnknownWord spot earlier offends = absurd (omega (arith, earlier))
 before-key elf text path fits first TransferInSlot spot earlier offends = absurd (omega (arith, earlier))
@@ -134,6 +133,7 @@ before-key elf text path fits first Recursion spot earlier offends = absurd (ome
 before-key elf text path fits first Irreducible spot earlier offends = absurd (omega (arith, earlier))
 before-key elf text path fits first NoBound spot earlier offends = absurd (omega (arith, earlier))
 before-key elf text path fits first NeverReturns spot earlier offends = absurd (omega (arith, earlier))
+before-key elf text path fits first TooManyUnits spot earlier offends = absurd (omega (arith, earlier))
 before-key elf text path fits first BoundTooLarge spot earlier offends = absurd (omega (arith, earlier))
 
 first-key : (elf text path : List ℕ) → Fits (given elf (Some text)) → Tells text (config_fault.Key path) →
@@ -168,7 +168,6 @@ before-range elf text path fits first BadRecord spot earlier offends = absurd (o
 before-range elf text path fits first NoSymbol spot earlier offends = absurd (omega (arith, earlier))
 before-range elf text path fits first RegionClash spot earlier offends = absurd (omega (arith, earlier))
 before-range elf text path fits first Unbuilt spot earlier offends = absurd (omega (arith, earlier))
-before-range elf text path fits first Unfollowed spot earlier offends = absurd (omega (arith, earlier))
 before-range elf text path fits first WritableCode spot earlier offends = absurd (omega (arith, earlier))
 before-range elf text path fits first UnknownWord spot earlier offends = absurd (omega (arith, earlier))
 before-range elf text path fits first TransferInSlot spot earlier offends = absurd (omega (arith, earlier))
@@ -178,6 +177,7 @@ before-range elf text path fits first Recursion spot earlier offends = absurd (o
 before-range elf text path fits first Irreducible spot earlier offends = absurd (omega (arith, earlier))
 before-range elf text path fits first NoBound spot earlier offends = absurd (omega (arith, earlier))
 before-range elf text path fits first NeverReturns spot earlier offends = absurd (omega (arith, earlier))
+before-range elf text path fits first TooManyUnits spot earlier offends = absurd (omega (arith, earlier))
 before-range elf text path fits first BoundTooLarge spot earlier offends = absurd (omega (arith, earlier))
 
 first-range : (elf text path : List ℕ) → Fits (given elf (Some text)) → Tells text (config_fault.Range path) →

@@ -1,5 +1,5 @@
 -- The first fault of the given files: what their lengths, the profile's text and the ELF file tell.
-use Rattle.std.proofs.Common.{◌≡◌, ℕ, ◌+◌, ◌<◌, ◌≤◌, ◌⊎◌, inl, inr, List, [], ◌∷◌, length, All, Contains, Option, Some, None, Result, Ok, Err, IfOk, IfErr, true, refl, sym, ap, subst, ◌∙◌, arith}
+use Rattle.std.proofs.Common.{◌≡◌, ℕ, ◌+◌, ◌<◌, inl, inr, List, [], Contains, Option, Some, None, Result, Ok, Err, IfOk, IfErr, refl, sym, ap, subst, ◌∙◌, arith}
 use Rattle.cache_config.specs.Faults.{key_fault, profile_faults, range_fault}
 use Rattle.cache_config.specs.declared.profile.Profile.{Profile}
 use Rattle.wcet_engine.specs.declared.analysis.Analysis.{Analysis}
@@ -7,13 +7,13 @@ use Rattle.wcet_engine.specs.declared.analysis.Refused.{Refused}
 use Rattle.wcet_engine.specs.declared.analysis.Refused.TheVariants.{Fault, Memory}
 use Rattle.wcet_engine.specs.declared.refusal.Refusal.{Refusal}
 use Rattle.wcet_engine.specs.declared.refusal.RefusalKind.{RefusalKind}
-use Rattle.wcet_engine.specs.declared.refusal.RefusalKind.TheVariants.{TooLong, ConfigText, ConfigKey, ConfigRange, Short, NotElf, NotThisKind, BadTable, BadSegment, BadSection, BadRecord, NoSymbol, RegionClash, Unbuilt, Unfollowed, WritableCode, UnknownWord, TransferInSlot, UnknownTarget, LinkRegister, Recursion, Irreducible, NoBound, NeverReturns, BoundTooLarge}
+use Rattle.wcet_engine.specs.declared.refusal.RefusalKind.TheVariants.{TooLong, ConfigText, ConfigKey, ConfigRange, Short, NotElf, NotThisKind, BadTable, BadSegment, BadSection, BadRecord, NoSymbol, RegionClash, Unbuilt, WritableCode, UnknownWord, TransferInSlot, UnknownTarget, LinkRegister, Recursion, Irreducible, NoBound, NeverReturns, TooManyUnits, BoundTooLarge}
 use Rattle.wcet_engine.specs.declared.refusal.Spot.{Spot}
 use Rattle.wcet_engine.specs.declared.refusal.Spot.TheVariants.{Number, Key}
 use Rattle.wcet_engine.specs.Faults.{GivesProfile, IsAnalysis, IsFirstFault, IsKeyFault, IsLess, IsNoDocument, IsRangeFault, OfProfile, Offends, OffendsAt, TellsFault}
 use Rattle.wcet_engine.specs.FileFaults.{IsAnalysisFor, IsFirstFaultOf, OffendsOf, TellsFaultOf}
-use Rattle.wcet_engine.specs.Given.{Fits, FitsText, Given, IsLong, IsLongText, file_limit}
-use Rattle.wcet_engine.specs.Refusals.{at_number, rank, says_at}
+use Rattle.wcet_engine.specs.Given.{Fits, FitsText, Given, IsLong, IsLongText}
+use Rattle.wcet_engine.specs.Refusals.{rank, says_at}
 use Rattle.wcet_engine.proofs.FileFaultLemmas.{file-same}
 use Rattle.wcet_engine.proofs.SameFiles.{same-members, same-profile}
 
@@ -67,7 +67,6 @@ none-config files profile fits gives BadRecord spot earlier offends = absurd (om
 none-config files profile fits gives NoSymbol spot earlier offends = absurd (omega (arith, earlier))
 none-config files profile fits gives RegionClash spot earlier offends = absurd (omega (arith, earlier))
 none-config files profile fits gives Unbuilt spot earlier offends = absurd (omega (arith, earlier))
-none-config files profile fits gives Unfollowed spot earlier offends = absurd (omega (arith, earlier))
 none-config files profile fits gives WritableCode spot earlier offends = absurd (omega (arith, earlier))
 none-config files profile fits gives UnknownWord spot earlier offends = absurd (omega (arith, earlier))
 none-config files profile fits gives TransferInSlot spot earlier offends = absurd (omega (arith, earlier))
@@ -77,6 +76,7 @@ none-config files profile fits gives Recursion spot earlier offends = absurd (om
 none-config files profile fits gives Irreducible spot earlier offends = absurd (omega (arith, earlier))
 none-config files profile fits gives NoBound spot earlier offends = absurd (omega (arith, earlier))
 none-config files profile fits gives NeverReturns spot earlier offends = absurd (omega (arith, earlier))
+none-config files profile fits gives TooManyUnits spot earlier offends = absurd (omega (arith, earlier))
 none-config files profile fits gives BoundTooLarge spot earlier offends = absurd (omega (arith, earlier))
 
 -- What is said of the profile is said of each that is given.
@@ -127,9 +127,6 @@ none-until files profile limit fits gives none RegionClash (Number place) earlie
 none-until files profile limit fits gives none Unbuilt (Key path) earlier offends = offends
 none-until files profile limit fits gives none Unbuilt (Number place) earlier offends =
     none Unbuilt place earlier (of-profile files profile Unbuilt place gives offends)
-none-until files profile limit fits gives none Unfollowed (Key path) earlier offends = offends
-none-until files profile limit fits gives none Unfollowed (Number place) earlier offends =
-    none Unfollowed place earlier (of-profile files profile Unfollowed place gives offends)
 none-until files profile limit fits gives none WritableCode (Key path) earlier offends = offends
 none-until files profile limit fits gives none WritableCode (Number place) earlier offends =
     none WritableCode place earlier (of-profile files profile WritableCode place gives offends)
@@ -155,8 +152,11 @@ none-until files profile limit fits gives none NoBound (Key path) earlier offend
 none-until files profile limit fits gives none NoBound (Number place) earlier offends =
     none NoBound place earlier (of-profile files profile NoBound place gives offends)
 none-until files profile limit fits gives none NeverReturns (Key path) earlier offends = offends
+none-until files profile limit fits gives none TooManyUnits (Key path) earlier offends = offends
 none-until files profile limit fits gives none NeverReturns (Number place) earlier offends =
     none NeverReturns place earlier (of-profile files profile NeverReturns place gives offends)
+none-until files profile limit fits gives none TooManyUnits (Number place) earlier offends =
+    none TooManyUnits place earlier (of-profile files profile TooManyUnits place gives offends)
 none-until files profile limit fits gives none BoundTooLarge (Key path) earlier offends = offends
 none-until files profile limit fits gives none BoundTooLarge (Number place) earlier offends =
     none BoundTooLarge place earlier (of-profile files profile BoundTooLarge place gives offends)
@@ -178,7 +178,6 @@ file-offends files profile BadRecord place gives offends = record { profile = pr
 file-offends files profile NoSymbol place gives offends = record { profile = profile; gives = gives; says = offends }
 file-offends files profile RegionClash place gives offends = record { profile = profile; gives = gives; says = offends }
 file-offends files profile Unbuilt place gives offends = record { profile = profile; gives = gives; says = offends }
-file-offends files profile Unfollowed place gives offends = record { profile = profile; gives = gives; says = offends }
 file-offends files profile WritableCode place gives offends = record { profile = profile; gives = gives; says = offends }
 file-offends files profile UnknownWord place gives offends = record { profile = profile; gives = gives; says = offends }
 file-offends files profile TransferInSlot place gives offends = record { profile = profile; gives = gives; says = offends }
@@ -188,6 +187,7 @@ file-offends files profile Recursion place gives offends = record { profile = pr
 file-offends files profile Irreducible place gives offends = record { profile = profile; gives = gives; says = offends }
 file-offends files profile NoBound place gives offends = record { profile = profile; gives = gives; says = offends }
 file-offends files profile NeverReturns place gives offends = record { profile = profile; gives = gives; says = offends }
+file-offends files profile TooManyUnits place gives offends = record { profile = profile; gives = gives; says = offends }
 file-offends files profile BoundTooLarge place gives offends = record { profile = profile; gives = gives; says = offends }
 
 offends-file : (files : Given) (profile : Profile) (kind : RefusalKind) (place other : ℕ) → GivesProfile files.config profile →
@@ -206,7 +206,6 @@ offends-file files profile BadRecord place other gives here offends = of-profile
 offends-file files profile NoSymbol place other gives here offends = of-profile files profile NoSymbol other gives offends
 offends-file files profile RegionClash place other gives here offends = of-profile files profile RegionClash other gives offends
 offends-file files profile Unbuilt place other gives here offends = of-profile files profile Unbuilt other gives offends
-offends-file files profile Unfollowed place other gives here offends = of-profile files profile Unfollowed other gives offends
 offends-file files profile WritableCode place other gives here offends = of-profile files profile WritableCode other gives offends
 offends-file files profile UnknownWord place other gives here offends = of-profile files profile UnknownWord other gives offends
 offends-file files profile TransferInSlot place other gives here offends = of-profile files profile TransferInSlot other gives offends
@@ -216,6 +215,7 @@ offends-file files profile Recursion place other gives here offends = of-profile
 offends-file files profile Irreducible place other gives here offends = of-profile files profile Irreducible other gives offends
 offends-file files profile NoBound place other gives here offends = of-profile files profile NoBound other gives offends
 offends-file files profile NeverReturns place other gives here offends = of-profile files profile NeverReturns other gives offends
+offends-file files profile TooManyUnits place other gives here offends = of-profile files profile TooManyUnits other gives offends
 offends-file files profile BoundTooLarge place other gives here offends = of-profile files profile BoundTooLarge other gives offends
 
 first-file : (files : Given) (profile : Profile) (refusal : Refusal) (place : ℕ) → refusal.spot ≡ Number place → Fits files →

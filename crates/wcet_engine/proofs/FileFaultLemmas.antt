@@ -1,6 +1,6 @@
 -- The first fault of a file under a profile: what its reader, its symbols, its clash and its program tell.
-use Rattle.std.proofs.Common.{◌≡◌, ℕ, ◌+◌, ◌<◌, ◌≤◌, List, [], ◌∷◌, length, All, Contains, Option, Some, None, Result, Ok, Err, IfOk, IfErr, true, refl, sym, ap, subst, ◌∙◌, arith}
-use Rattle.std.specs.Prelude.{Bool, false}
+use Rattle.std.proofs.Common.{◌≡◌, ℕ, ◌+◌, ◌<◌, ◌≤◌, List, [], ◌∷◌, All, Contains, Option, Some, None, Result, Ok, Err, IfOk, IfErr, true, refl, sym, ap, subst, ◌∙◌, arith}
+use Rattle.std.specs.Prelude.{false}
 use Rattle.std.proofs.lemmas.Option.{none-some, same_Some}
 use Rattle.cache_config.specs.declared.profile.Profile.{Profile}
 use Rattle.elf_mips.specs.declared.fault.ElfKind.{ElfKind}
@@ -15,7 +15,7 @@ use Rattle.wcet_engine.specs.declared.analysis.Analysis.{Analysis}
 use Rattle.wcet_engine.specs.declared.analysis.Refused.{Refused}
 use Rattle.wcet_engine.specs.declared.analysis.Refused.TheVariants.{Fault, Memory}
 use Rattle.wcet_engine.specs.declared.refusal.RefusalKind.{RefusalKind}
-use Rattle.wcet_engine.specs.declared.refusal.RefusalKind.TheVariants.{TooLong, ConfigText, ConfigKey, ConfigRange, Short, NotElf, NotThisKind, BadTable, BadSegment, BadSection, BadRecord, NoSymbol, RegionClash, Unbuilt, Unfollowed, WritableCode, UnknownWord, TransferInSlot, UnknownTarget, LinkRegister, Recursion, Irreducible, NoBound, NeverReturns, BoundTooLarge}
+use Rattle.wcet_engine.specs.declared.refusal.RefusalKind.TheVariants.{TooLong, ConfigText, ConfigKey, ConfigRange, Short, NotElf, NotThisKind, BadTable, BadSegment, BadSection, BadRecord, NoSymbol, RegionClash, Unbuilt, WritableCode, UnknownWord, TransferInSlot, UnknownTarget, LinkRegister, Recursion, Irreducible, NoBound, NeverReturns, TooManyUnits, BoundTooLarge}
 use Rattle.wcet_engine.specs.Clash.{IsClash, IsLeast}
 use Rattle.wcet_engine.specs.FileFaults.{IsAnalysisFor, IsFirstFaultOf, OfProgram, OffendsOf, TellsFaultOf, entry_by, entry_of, refused_of}
 use Rattle.wcet_engine.specs.ProgramFaults.{IsAnalysisOf, IsFirstFaultIn, OffendsIn, TellsFaultIn}
@@ -89,7 +89,6 @@ none-before file profile image limit free most BadRecord place earlier offends =
 none-before file profile image limit free most NoSymbol place earlier offends = free.entered earlier (symbol-in file profile image place free.is offends)
 none-before file profile image limit free most RegionClash place earlier offends = free.apart earlier place (clash-in file profile image place free.is offends)
 none-before file profile image limit free most Unbuilt place earlier offends = free.built earlier offends.1
-none-before file profile image limit free most Unfollowed place earlier offends = absurd (omega (arith, earlier, most))
 none-before file profile image limit free most WritableCode place earlier offends = absurd (omega (arith, earlier, most))
 none-before file profile image limit free most UnknownWord place earlier offends = absurd (omega (arith, earlier, most))
 none-before file profile image limit free most TransferInSlot place earlier offends = absurd (omega (arith, earlier, most))
@@ -99,6 +98,7 @@ none-before file profile image limit free most Recursion place earlier offends =
 none-before file profile image limit free most Irreducible place earlier offends = absurd (omega (arith, earlier, most))
 none-before file profile image limit free most NoBound place earlier offends = absurd (omega (arith, earlier, most))
 none-before file profile image limit free most NeverReturns place earlier offends = absurd (omega (arith, earlier, most))
+none-before file profile image limit free most TooManyUnits place earlier offends = absurd (omega (arith, earlier, most))
 none-before file profile image limit free most BoundTooLarge place earlier offends = absurd (omega (arith, earlier, most))
 
 -- Of the program's kinds those have an offender that the program tells.
@@ -133,8 +133,6 @@ none-until file profile image entry limit free enters none RegionClash place ear
     none-before file profile image 14 free (omega arith) RegionClash place (omega arith) offends
 none-until file profile image entry limit free enters none Unbuilt place earlier offends =
     none-before file profile image 14 free (omega arith) Unbuilt place (omega arith) offends
-none-until file profile image entry limit free enters none Unfollowed place earlier offends =
-    none Unfollowed place earlier (program-in file profile image entry Unfollowed place free.is enters offends)
 none-until file profile image entry limit free enters none WritableCode place earlier offends =
     none WritableCode place earlier (program-in file profile image entry WritableCode place free.is enters offends)
 none-until file profile image entry limit free enters none UnknownWord place earlier offends =
@@ -153,6 +151,8 @@ none-until file profile image entry limit free enters none NoBound place earlier
     none NoBound place earlier (program-in file profile image entry NoBound place free.is enters offends)
 none-until file profile image entry limit free enters none NeverReturns place earlier offends =
     none NeverReturns place earlier (program-in file profile image entry NeverReturns place free.is enters offends)
+none-until file profile image entry limit free enters none TooManyUnits place earlier offends =
+    none TooManyUnits place earlier (program-in file profile image entry TooManyUnits place free.is enters offends)
 none-until file profile image entry limit free enters none BoundTooLarge place earlier offends =
     none BoundTooLarge place earlier (program-in file profile image entry BoundTooLarge place free.is enters offends)
 
@@ -238,8 +238,6 @@ program-offends file profile image entry BadRecord place is enters offends = abs
 program-offends file profile image entry NoSymbol place is enters offends = absurd offends
 program-offends file profile image entry RegionClash place is enters offends = absurd offends
 program-offends file profile image entry Unbuilt place is enters offends = absurd offends
-program-offends file profile image entry Unfollowed place is enters offends =
-    record { image = image; read = is.read; entry = entry; enters = enters; says = offends }
 program-offends file profile image entry WritableCode place is enters offends =
     record { image = image; read = is.read; entry = entry; enters = enters; says = offends }
 program-offends file profile image entry UnknownWord place is enters offends =
@@ -257,6 +255,8 @@ program-offends file profile image entry Irreducible place is enters offends =
 program-offends file profile image entry NoBound place is enters offends =
     record { image = image; read = is.read; entry = entry; enters = enters; says = offends }
 program-offends file profile image entry NeverReturns place is enters offends =
+    record { image = image; read = is.read; entry = entry; enters = enters; says = offends }
+program-offends file profile image entry TooManyUnits place is enters offends =
     record { image = image; read = is.read; entry = entry; enters = enters; says = offends }
 program-offends file profile image entry BoundTooLarge place is enters offends =
     record { image = image; read = is.read; entry = entry; enters = enters; says = offends }
@@ -279,8 +279,6 @@ of-program file profile image entry BadRecord place other is enters here offends
 of-program file profile image entry NoSymbol place other is enters here offends = absurd here
 of-program file profile image entry RegionClash place other is enters here offends = absurd here
 of-program file profile image entry Unbuilt place other is enters here offends = absurd here
-of-program file profile image entry Unfollowed place other is enters here offends =
-    program-in file profile image entry Unfollowed other is enters offends
 of-program file profile image entry WritableCode place other is enters here offends =
     program-in file profile image entry WritableCode other is enters offends
 of-program file profile image entry UnknownWord place other is enters here offends =
@@ -299,6 +297,8 @@ of-program file profile image entry NoBound place other is enters here offends =
     program-in file profile image entry NoBound other is enters offends
 of-program file profile image entry NeverReturns place other is enters here offends =
     program-in file profile image entry NeverReturns other is enters offends
+of-program file profile image entry TooManyUnits place other is enters here offends =
+    program-in file profile image entry TooManyUnits other is enters offends
 of-program file profile image entry BoundTooLarge place other is enters here offends =
     program-in file profile image entry BoundTooLarge other is enters offends
 
@@ -386,7 +386,6 @@ earlier-kinds file profile n clean low BadRecord place earlier offends = nothing
 earlier-kinds file profile n clean low NoSymbol place earlier offends = absurd (omega (arith, earlier, low))
 earlier-kinds file profile n clean low RegionClash place earlier offends = absurd (omega (arith, earlier, low))
 earlier-kinds file profile n clean low Unbuilt place earlier offends = absurd (omega (arith, earlier, low))
-earlier-kinds file profile n clean low Unfollowed place earlier offends = absurd (omega (arith, earlier, low))
 earlier-kinds file profile n clean low WritableCode place earlier offends = absurd (omega (arith, earlier, low))
 earlier-kinds file profile n clean low UnknownWord place earlier offends = absurd (omega (arith, earlier, low))
 earlier-kinds file profile n clean low TransferInSlot place earlier offends = absurd (omega (arith, earlier, low))
@@ -396,6 +395,7 @@ earlier-kinds file profile n clean low Recursion place earlier offends = absurd 
 earlier-kinds file profile n clean low Irreducible place earlier offends = absurd (omega (arith, earlier, low))
 earlier-kinds file profile n clean low NoBound place earlier offends = absurd (omega (arith, earlier, low))
 earlier-kinds file profile n clean low NeverReturns place earlier offends = absurd (omega (arith, earlier, low))
+earlier-kinds file profile n clean low TooManyUnits place earlier offends = absurd (omega (arith, earlier, low))
 earlier-kinds file profile n clean low BoundTooLarge place earlier offends = absurd (omega (arith, earlier, low))
 
 -- What the reader tells of a fault is the file's first fault.
@@ -459,7 +459,6 @@ file-same file profile other RegionClash place same offends = record {
   says = clash-same offends.image offends.image profile other place (image-alike offends.image) same.regions offends.says;
 }
 file-same file profile other Unbuilt place same offends = (offends.0, sym same.unbuilt ∙ offends.1)
-file-same file profile other Unfollowed place same offends = program-alike file profile other Unfollowed place same offends
 file-same file profile other WritableCode place same offends = program-alike file profile other WritableCode place same offends
 file-same file profile other UnknownWord place same offends = program-alike file profile other UnknownWord place same offends
 file-same file profile other TransferInSlot place same offends = program-alike file profile other TransferInSlot place same offends
@@ -469,4 +468,5 @@ file-same file profile other Recursion place same offends = program-alike file p
 file-same file profile other Irreducible place same offends = program-alike file profile other Irreducible place same offends
 file-same file profile other NoBound place same offends = program-alike file profile other NoBound place same offends
 file-same file profile other NeverReturns place same offends = program-alike file profile other NeverReturns place same offends
+file-same file profile other TooManyUnits place same offends = program-alike file profile other TooManyUnits place same offends
 file-same file profile other BoundTooLarge place same offends = program-alike file profile other BoundTooLarge place same offends

@@ -1,8 +1,14 @@
--- A certificate of the net's program bounds every run that the sentence speaks of.
-use Rattle.std.proofs.Common.{◌≡◌, ℕ, ◌+◌, ◌≤◌, List, [], ◌∷◌, ◌++◌, map, Option, Some, All, refl, ap, sym, subst, ◌∙◌, arith}
+-- A certificate of the program's net bounds every run that the sentence speaks of.
+use Rattle.std.proofs.Common.{◌≡◌, ℕ, ◌+◌, ◌<◌, ◌≤◌, List, [], ◌∷◌, ◌++◌, map, Option, Some, All, true, refl, ap, sym, subst, ◌∙◌, arith}
+use Rattle.std.specs.Prelude.{◌==◌}
+use Rattle.std.specs.List.{AllZip}
 use Rattle.std.proofs.Math.Path.{fun_ext}
+use Rattle.std.proofs.lemmas.Bool.Decides.{nat_tests}
 use Rattle.std.proofs.lemmas.List.Sums.{sum_by-cons}
+use Rattle.cache_config.specs.Instructions.{Costs, costs_of}
 use Rattle.cache_config.specs.declared.profile.Profile.{Profile}
+use Rattle.call_contexts.specs.Programs.{HasUnits, IsUnitOf}
+use Rattle.call_contexts.proofs.NetItems.{place-positive}
 use Rattle.elf_mips.specs.declared.image.Image.{Image}
 use Rattle.elf_mips.specs.Segments.{IsFilled}
 use Rattle.elf_mips.specs.Segments.{code_at as image_code}
@@ -12,26 +18,38 @@ use Rattle.flow_net.specs.Visits.{KeepsBound, KeepsBounds, ends, enters, passes,
 use Rattle.flow_net.specs.declared.net.LoopInst.{LoopInst}
 use Rattle.flow_net.specs.declared.net.Net.{Net}
 use Rattle.flow_net.specs.declared.net.NetArc.{NetArc}
-use Rattle.mips_decode.specs.State.{code_at}
-use Rattle.mips_decode.specs.Calls.{ReturnsToCallers}
-use Rattle.mips_machine.specs.Image.{regions_of}
-use Rattle.cache_config.specs.Instructions.{Costs, costs_of}
-use Rattle.mips_machine.specs.Machine.{IsMachineStart, Machine}
-use Rattle.mips_machine.specs.Run.{run_cost, values_of}
-use Rattle.mips_machine.proofs.CodeLemmas.{code_at-regions_of, code_at-start}
-use Rattle.mips_machine.proofs.RunLemmas.{RunsAs, runs_as}
-use Rattle.net_model.specs.Reached.{IsReached, first}
-use Rattle.net_model.specs.Net.{IsNet, IsPlaceAt}
-use Rattle.net_model.specs.Moments.{Moment, Takes, arcs_of}
+use Rattle.flow_net.proofs.Numbers.{item_at-all}
+use Rattle.ipet_program.specs.Costs.{content_cost, unit_cost}
 use Rattle.ipet_program.specs.Counts.{arc_cost, cycles_along, path_cost}
-use Rattle.ipet_program.specs.Programs.{place_price}
+use Rattle.ipet_program.specs.Programs.{place_price, price_at}
 use Rattle.ipet_program.specs.declared.certificate.Certificate.{Certificate}
 use Rattle.ipet_program.proofs.RunCounts.{run-bound}
-use Rattle.loop_nest.proofs.NetItems.{instance-at, item-positive}
-use Rattle.wcet_engine.specs.Code.{Certifies}
-use Rattle.wcet_engine.specs.Records.{AreVisited, visits}
+use Rattle.mips_decode.specs.Calls.{ReturnsToCallers, calls_after}
+use Rattle.mips_decode.specs.Records.{KeepTargets}
+use Rattle.mips_decode.specs.Run.{IsRun, last_state}
+use Rattle.mips_decode.specs.State.{State, code_at, return_address}
+use Rattle.mips_decode.specs.Step.{value_step}
+use Rattle.mips_decode.specs.Transfer.{Call}
+use Rattle.mips_machine.specs.Image.{regions_of}
+use Rattle.mips_machine.specs.Machine.{IsMachineStart, Machine}
+use Rattle.mips_machine.specs.Run.{run_cost, step_cost, values_of}
+use Rattle.mips_machine.proofs.CodeLemmas.{code_at-regions_of, code_at-start}
+use Rattle.mips_machine.proofs.RunLemmas.{RunsAs, runs_as}
+use Rattle.net_model.specs.declared.unit.CodeUnit.{CodeUnit}
+use Rattle.net_model.specs.declared.unit.Content.TheVariants.{Unit as Stands}
+use Rattle.net_model.specs.Moments.{Moment, Takes, arcs_of}
+use Rattle.net_model.specs.Net.{IsNet}
+use Rattle.net_model.specs.Places.{IsPlaceOf}
+use Rattle.net_model.specs.Runs.{AreVisited, IsKeptRun, StandsAt, stands, visits}
+use Rattle.net_model.specs.Targets.{targets_at, unit_at}
+use Rattle.net_model.specs.Units.{content_at}
+use Rattle.net_model.proofs.Contents.{IsFetched-unit}
+use Rattle.net_model.proofs.Followed.{unit-content}
+use Rattle.net_model.proofs.Steps.{unit-goes}
+use Rattle.net_model.proofs.Zero.{IsZero}
 use Rattle.wcet_engine.specs.Sentence.{Bounds}
-use Rattle.wcet_engine.proofs.RunPaths.{IsFollowed, RunPath, run-path}
+use Rattle.wcet_engine.specs.Stages.{Certifies, IsNetOf}
+use Rattle.wcet_engine.proofs.UnitCosts.{step_cost-unit, transfer-alone}
 
 -- The executable words of a start are the image's.
 code-of_start : (image : Image) (profile : Profile) (entry : ℕ) (m : Machine) → All IsFilled image.segments →
@@ -54,8 +72,8 @@ keeps-end net scope inst differ _ _ _ (returns from left more inside rest) =
 keep-end : (image : Image) (entry : ℕ) (net : Net) → IsNet image entry net → (places : List ℕ) → KeepsBounds net places →
     KeepsBounds net (places ++ 0 ∷ [])
 keep-end image entry net is places keeps scope inst there =
-    let one = instance-at image entry net is scope inst there in
-    let positive = item-positive net.places inst.header one.at.place one.at.there in
+    let one = is.loops.each scope inst there in
+    let positive = place-positive net inst.header one.context one.header one.at in
     keeps-end net scope inst (λ same. absurd (omega (arith, positive, same))) places 0 0 (keeps scope inst there)
 
 -- The moments of a path.
@@ -63,52 +81,163 @@ moments-arcs : (numbers : List ℕ) → arcs_of (map (λ (n : ℕ). Takes n) num
 moments-arcs [] = refl
 moments-arcs (number ∷ numbers) = ap (λ (ns : List ℕ). number ∷ ns) (moments-arcs numbers)
 
--- The path of a run begins with arc 1. So a valid certificate bounds its cycles.
-whole-path : (profile : Profile) (image : Image) (entry : ℕ) (net : Net) (certificate : Certificate) (cycles to : ℕ) (addresses : List ℕ) →
-    IsFollowed image entry net → Certifies image profile net certificate →
-    ((places : List ℕ) → AreVisited net addresses places → KeepsBounds net places) →
-    (arc : (arc : NetArc) × (item_at 1 net.arcs ≡ Some arc) × (arc.from ≡ 0) × IsPlaceAt net arc.to entry) →
-    to ≡ arc.0.to → RunPath profile image net to cycles addresses → cycles ≤ certificate.bound
-whole-path profile image entry net certificate cycles to addresses is certifies keeps arc same path =
-    let price = place_price profile image net in
-    let numbers : List ℕ = 1 ∷ path.numbers in
-    let moments : List Moment = map (λ (n : ℕ). Takes n) numbers in
-    let arcs : arcs_of moments ≡ numbers = moments-arcs numbers in
-    let at_one : arc_cost price (item_at 1 net.arcs) ≡ price to = ap (arc_cost price) arc.1 ∙ ap price (sym same) in
-    let sum : path_cost price net.arcs numbers ≡ arc_cost price (item_at 1 net.arcs) + path_cost price net.arcs path.numbers =
-    sum_by-cons (λ (n : ℕ). arc_cost price (item_at n net.arcs)) 1 path.numbers in
-    let run : IsRunPath net.arcs numbers 0 =
-    (refl, (arc.0, arc.1, arc.2, subst (λ (n : ℕ). IsPath net.arcs n path.numbers 0) same path.path)) in
-    let targets : targets_along net.arcs numbers ≡ (to ∷ path.places) ++ 0 ∷ [] =
-    ap (λ (n : ℕ). n ∷ targets_along net.arcs path.numbers) (ap target_of arc.1 ∙ sym same) ∙ ap (λ (ns : List ℕ). to ∷ ns) path.along in
-    let kept : KeepsBounds net (targets_along net.arcs numbers) =
-    subst (KeepsBounds net) (sym targets) (keep-end image entry net is.is_net (to ∷ path.places) (keeps (to ∷ path.places) path.visited)) in
-    let most : cycles_along price net.arcs moments ≤ certificate.bound =
-    run-bound net price certifies.program certifies.is certifies.checkable certificate certifies.valid moments
-    (subst (λ (ns : List ℕ). IsRunPath net.arcs ns 0) (sym arcs) run)
-    (subst (λ (ns : List ℕ). KeepsBounds net (targets_along net.arcs ns)) (sym arcs) kept) in
-    let cost : cycles_along price net.arcs moments ≡ path_cost price net.arcs numbers = ap (path_cost price net.arcs) arcs in
-    omega (arith, at_one, sum, most, cost, path.cost)
+-- At the place of return nothing more is visited.
+visits-none : (code : ℕ → Option ℕ) (open_calls : List Call) (t : State) → t.pc ≡ return_address → visits code open_calls t [] ≡ []
+visits-none code open_calls t same = let test : (t.pc == return_address) ≡ true = grind (arith, nat_tests) in rw test refl
 
-pub Bounds-net : (image : Image) (profile : Profile) (entry : ℕ) (net : Net) (certificate : Certificate) → All IsFilled image.segments →
-    IsFollowed image entry net → Certifies image profile net certificate → Bounds image profile entry certificate.bound
-Bounds-net image profile entry net certificate filled is certifies m start machines spoken =
+-- A run stands somewhere.
+stands-some : (net : Net) (code : ℕ → Option ℕ) (open_calls : List Call) (s : State) (states : List State) →
+    AllZip (StandsAt net) (stands code open_calls s states) [] → ⊥
+stands-some net code open_calls s [] zip = absurd zip
+stands-some net code open_calls s (t ∷ later) zip = absurd zip
+
+-- What a run that has returned says of the path that it goes along, from a place on: it visits the places of the path
+-- up to 0, and takes their cycles.
+record IsPriced (profile : Profile) (image : Image) (net : Net) (open_calls : List Call) (s : State) (states : List State) (from : ℕ) (numbers : List ℕ) (to : ℕ) : Type 0 where
+  places : List ℕ
+  visited : AreVisited net (visits (image_code image.segments) open_calls s states) places
+  along : from ∷ targets_along net.arcs numbers ≡ places ++ 0 ∷ []
+  ended : to ≡ 0
+  cost : run_cost (costs_of profile) (image_code image.segments) s states
+      ≡ place_price profile image net from + path_cost (place_price profile image net) net.arcs numbers
+
+module _ (profile : Profile) (image : Image) (net : Net) (units : HasUnits image net) where
+  -- A unit stands at the place where a run stands, and that is what it costs.
+  unit-there : (number context address : ℕ) → IsPlaceOf net number context address → (unit : CodeUnit) × (unit_at image address ≡ Stands unit)
+  unit-there number context address at =
+      let unit = item_at-all (IsUnitOf image) net.places number at.place units at.there in
+      (unit.unit, ap (unit_at image) (sym at.same) ∙ unit.stands)
+
+  price-there : (number context address : ℕ) (unit : CodeUnit) → IsPlaceOf net number context address → unit_at image address ≡ Stands unit →
+      place_price profile image net number ≡ unit_cost (costs_of profile) unit
+  price-there number context address unit at stands =
+      ap (price_at profile image) at.there
+      ∙ ap (λ (a : ℕ). content_cost (costs_of profile) (content_at image a)) at.same
+      ∙ ap (content_cost (costs_of profile)) (unit-content image address unit stands)
+
+  -- The run ends where it has returned: at 0.
+  priced-end : (open_calls : List Call) (s : State) (from to : ℕ) → IsPath net.arcs from [] to → from ≡ 0 → s.pc ≡ return_address →
+      IsPriced profile image net open_calls s [] from [] to
+  priced-end open_calls s from to path here place = record {
+    places = [];
+    visited = subst (λ there. AreVisited net there []) (sym (visits-none (image_code image.segments) open_calls s place)) tt;
+    along = ap (λ (n : ℕ). n ∷ []) here;
+    ended = sym path ∙ here;
+    cost = let none : place_price profile image net from ≡ 0 = ap (place_price profile image net) here in omega (arith, none);
+  }
+
+  -- One unit before the rest.
+  priced-step : (open_calls : List Call) (s t : State) (later : List State) (from number : ℕ) (numbers : List ℕ) (to : ℕ) (arc : NetArc) →
+      item_at number net.arcs ≡ Some arc → (0 < from) → StandsAt net (record { calls = open_calls; address = s.pc }) from →
+      IsZero s.regs → IsRun (image_code image.segments) s (t ∷ later) →
+      KeepTargets (targets_at image) (image_code image.segments) s (t ∷ later) →
+      (IsZero t.regs → IsPriced profile image net (calls_after open_calls (value_step (image_code image.segments) s)) t later arc.to numbers to) →
+      IsPriced profile image net open_calls s (t ∷ later) from (number ∷ numbers) to
+  priced-step open_calls s t later from number numbers to arc there positive at is_zero run targets more =
+      let code = image_code image.segments in
+      let price = place_price profile image net in
+      let here = at.within (λ place. absurd (let none = at.returned place in omega (arith, positive, none))) in
+      let unit = unit-there from here.context s.pc here.at in
+      let goes = unit-goes image unit.0 s t later unit.1 is_zero targets.0 run.0 in
+      let fetched = IsFetched-unit image s.pc unit.0 (unit-content image s.pc unit.0 unit.1) in
+      let cycles : step_cost (costs_of profile) (value_step code s) ≡ price from =
+      step_cost-unit (costs_of profile) image unit.0 s t later (value_step code s) (transfer-alone code s.pc unit.0.instr unit.0.slot fetched.slot) goes
+      ∙ sym (price-there from here.context s.pc unit.0 here.at unit.1) in
+      let rest = more goes.zero in
+      let first : arc_cost price (item_at number net.arcs) ≡ price arc.to = ap (arc_cost price) there in
+      let sum : path_cost price net.arcs (number ∷ numbers) ≡ arc_cost price (item_at number net.arcs) + path_cost price net.arcs numbers =
+      sum_by-cons (λ (n : ℕ). arc_cost price (item_at n net.arcs)) number numbers in
+      record {
+        places = from ∷ rest.places;
+        visited = (here, rest.visited);
+        along = ap (λ (n : ℕ). from ∷ n ∷ targets_along net.arcs numbers) (ap target_of there)
+            ∙ ap (λ (ns : List ℕ). from ∷ ns) rest.along;
+        ended = rest.ended;
+        cost = let after = rest.cost in omega (arith, cycles, first, sum, after);
+      }
+
+  priced : (states : List State) (open_calls : List Call) (s : State) (from : ℕ) (numbers : List ℕ) (to : ℕ) → IsPath net.arcs from numbers to →
+      AllZip (StandsAt net) (stands (image_code image.segments) open_calls s states) (from ∷ targets_along net.arcs numbers) →
+      IsZero s.regs → IsRun (image_code image.segments) s states → KeepTargets (targets_at image) (image_code image.segments) s states →
+      (last_state s states).pc ≡ return_address → IsPriced profile image net open_calls s states from numbers to
+  priced [] open_calls s from [] to path zip is_zero run targets place = priced-end open_calls s from to path (zip.0.returned place) place
+  priced [] open_calls s from (number ∷ numbers) to path zip is_zero run targets place = absurd zip.1
+  priced (t ∷ later) open_calls s from [] to path zip is_zero run targets place =
+      absurd (stands-some net (image_code image.segments) (calls_after open_calls (value_step (image_code image.segments) s)) t later zip.1)
+  priced (t ∷ later) open_calls s from (number ∷ numbers) to path zip is_zero run targets place =
+      let arc : NetArc = path.1.0 in
+      let after = calls_after open_calls (value_step (image_code image.segments) s) in
+      priced-step open_calls s t later from number numbers to arc path.1.1 path.0 zip.0 is_zero run targets
+      (λ zero. priced later after t arc.to numbers to path.1.3
+          (subst (λ (n : ℕ). AllZip (StandsAt net) (stands (image_code image.segments) after t later) (n ∷ targets_along net.arcs numbers))
+          (ap target_of path.1.1) zip.1)
+          zero run.1 targets.1 place)
+
+  -- So the cycles of a run along a path from arc 1 on are at most the bound of a certificate.
+  path-bound : (entry : ℕ) (certificate : Certificate) (s : State) (states : List State) → IsNet image entry net → Certifies image profile net certificate →
+      ((places : List ℕ) → AreVisited net (visits (image_code image.segments) [] s states) places → KeepsBounds net places) →
+      (arc : NetArc) → item_at 1 net.arcs ≡ Some arc → arc.from ≡ 0 → (numbers : List ℕ) (to : ℕ) → IsPath net.arcs arc.to numbers to →
+      IsPriced profile image net [] s states arc.to numbers to →
+      run_cost (costs_of profile) (image_code image.segments) s states ≤ certificate.bound
+  path-bound entry certificate s states is certifies keeps arc there outside numbers to path priced =
+      let price = place_price profile image net in
+      let whole : List ℕ = 1 ∷ numbers in
+      let moments : List Moment = map (λ (n : ℕ). Takes n) whole in
+      let arcs : arcs_of moments ≡ whole = moments-arcs whole in
+      let at_one : arc_cost price (item_at 1 net.arcs) ≡ price arc.to = ap (arc_cost price) there in
+      let sum : path_cost price net.arcs whole ≡ arc_cost price (item_at 1 net.arcs) + path_cost price net.arcs numbers =
+      sum_by-cons (λ (n : ℕ). arc_cost price (item_at n net.arcs)) 1 numbers in
+      let run : IsRunPath net.arcs whole 0 = (refl, (arc, there, outside, subst (IsPath net.arcs arc.to numbers) priced.ended path)) in
+      let targets : targets_along net.arcs whole ≡ priced.places ++ 0 ∷ [] =
+      ap (λ (n : ℕ). n ∷ targets_along net.arcs numbers) (ap target_of there) ∙ priced.along in
+      let kept : KeepsBounds net (targets_along net.arcs whole) =
+      subst (KeepsBounds net) (sym targets) (keep-end image entry net is priced.places (keeps priced.places priced.visited)) in
+      let most : cycles_along price net.arcs moments ≤ certificate.bound =
+      run-bound net price certifies.program certifies.is certifies.checkable certificate certifies.valid moments
+      (subst (λ (ns : List ℕ). IsRunPath net.arcs ns 0) (sym arcs) run)
+      (subst (λ (ns : List ℕ). KeepsBounds net (targets_along net.arcs ns)) (sym arcs) kept) in
+      let cost : cycles_along price net.arcs moments ≡ path_cost price net.arcs whole = ap (path_cost price net.arcs) arcs in
+      let cycles = priced.cost in
+      omega (arith, at_one, sum, most, cost, cycles)
+
+  run-within : (entry : ℕ) (certificate : Certificate) (s : State) (states : List State) → IsNet image entry net → Certifies image profile net certificate →
+      ((places : List ℕ) → AreVisited net (visits (image_code image.segments) [] s states) places → KeepsBounds net places) →
+      IsKeptRun image entry s states → (last_state s states).pc ≡ return_address → (numbers : List ℕ) (to : ℕ) → IsRunPath net.arcs numbers to →
+      AllZip (StandsAt net) (stands (image_code image.segments) [] s states) (targets_along net.arcs numbers) →
+      run_cost (costs_of profile) (image_code image.segments) s states ≤ certificate.bound
+  run-within entry certificate s states is certifies keeps kept place [] to path zip = absurd path
+  run-within entry certificate s states is certifies keeps kept place (number ∷ numbers) to path zip =
+      let arc : NetArc = path.1.0 in
+      let there : item_at 1 net.arcs ≡ Some arc = subst (λ (n : ℕ). item_at n net.arcs ≡ Some arc) path.0 path.1.1 in
+      path-bound entry certificate s states is certifies keeps arc there path.1.2 numbers to path.1.3
+      (priced states [] s arc.to numbers to path.1.3
+      (subst (λ (n : ℕ). AllZip (StandsAt net) (stands (image_code image.segments) [] s states) (n ∷ targets_along net.arcs numbers))
+      (ap target_of path.1.1) zip)
+      kept.zero kept.run kept.targets place)
+
+pub Bounds-net : (image : Image) (profile : Profile) (entry : ℕ) (net : Net) (certificate : Certificate) →
+    IsNetOf image entry net → Certifies image profile net certificate → Bounds image profile entry certificate.bound
+Bounds-net image profile entry net certificate is certifies m start machines spoken =
     let code : ℕ → Option ℕ = image_code image.segments in
-    let same : code_at m.values.regions ≡ code = code-of_start image profile entry m filled start in
+    let states : List State = values_of machines in
+    let same : code_at m.values.regions ≡ code = code-of_start image profile entry m image.filled start in
     let runs : RunsAs code m machines = runs_as code m machines same spoken.run in
-    let back : ReturnsToCallers code [] m.values (values_of machines) =
-    subst (λ (words : ℕ → Option ℕ). ReturnsToCallers words [] m.values (values_of machines)) same spoken.callers in
-    let here : IsReached image entry m.values.pc = subst (IsReached image entry) (sym start.values.pc) first in
-    let arc = is.is_net.first in
-    let at : IsPlaceAt net arc.0.to m.values.pc = subst (IsPlaceAt net arc.0.to) (sym start.values.pc) arc.3 in
-    let path : RunPath profile image net arc.0.to (run_cost (costs_of profile) code m.values (values_of machines)) (visits code m.values (values_of machines)) =
-    run-path profile image entry net is (values_of machines) m.values arc.0.to here start.values.registers.zero at
-    runs.run back spoken.returned in
-    let keeps : (places : List ℕ) → AreVisited net (visits code m.values (values_of machines)) places → KeepsBounds net places =
-    subst (λ (words : ℕ → Option ℕ). (places : List ℕ) → AreVisited net (visits words m.values (values_of machines)) places → KeepsBounds net places)
+    let kept : IsKeptRun image entry m.values states = record {
+      begins = start.values.pc;
+      zero = start.values.registers.zero;
+      run = runs.run;
+      targets = subst (λ (words : ℕ → Option ℕ). KeepTargets (targets_at image) words m.values states) same spoken.records.targets;
+      callers = subst (λ (words : ℕ → Option ℕ). ReturnsToCallers words [] m.values states) same spoken.callers;
+    } in
+    let keeps : (places : List ℕ) → AreVisited net (visits code [] m.values states) places → KeepsBounds net places =
+    subst (λ (words : ℕ → Option ℕ). (places : List ℕ) → AreVisited net (visits words [] m.values states) places → KeepsBounds net places)
     same (spoken.records.bounds net is.is_net) in
-    let most : run_cost (costs_of profile) code m.values (values_of machines) ≤ certificate.bound =
-    whole-path profile image entry net certificate _ arc.0.to _ is certifies keeps arc refl path in
-    let costs : run_cost m.costs code m.values (values_of machines) ≡ run_cost (costs_of profile) code m.values (values_of machines) =
-    ap (λ (c : Costs). run_cost c code m.values (values_of machines)) start.costs in
-    omega (arith, most, costs, runs.cycles, start.cycles)
+    let path = is.paths m.values states kept in
+    let most : run_cost (costs_of profile) code m.values states ≤ certificate.bound =
+    run-within profile image net is.units entry certificate m.values states is.is_net certifies keeps kept spoken.returned.place
+    path.numbers path.to path.path path.stand in
+    let costs : run_cost m.costs code m.values states ≡ run_cost (costs_of profile) code m.values states =
+    ap (λ (c : Costs). run_cost c code m.values states) start.costs in
+    let cycles = runs.cycles in
+    let none = start.cycles in
+    omega (arith, most, costs, cycles, none)

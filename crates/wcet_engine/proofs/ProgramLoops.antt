@@ -1,5 +1,5 @@
--- The loops of a program's functions: those of each, and those of the entry, which come first.
-use Rattle.std.proofs.Common.{ℕ, ◌<◌, inl, inr, List, [], ◌∷◌, length, map, get_or, subst, arith}
+-- The loops of each of a program's functions.
+use Rattle.std.proofs.Common.{ℕ, inl, inr, List, [], ◌∷◌, map, subst}
 use Rattle.std.specs.Prelude.{Contains}
 use Rattle.std.specs.List.{AllZip}
 use Rattle.elf_mips.specs.declared.image.Image.{Image}
@@ -12,7 +12,8 @@ use Rattle.loop_nest.proofs.NestLaws.{nest-bounded}
 use Rattle.loop_nest.proofs.Ordered.{cases-in, nothing-in}
 use Rattle.net_model.specs.Functions.{IsFunction}
 use Rattle.unit_graph.specs.declared.graph.Graph.{Graph}
-use Rattle.wcet_engine.specs.Code.{AreLoops}
+use Rattle.unit_graph.specs.declared.graph.Graphs.{Graphs}
+use Rattle.call_contexts.specs.Programs.{IsProgram}
 
 -- The loops of a function of the program.
 nest-in : (image : Image) (graphs : List Graph) (nests : List (List Loop)) (function : ℕ) → AllZip (IsNestOf image) graphs nests →
@@ -25,37 +26,17 @@ nest-in image (graph ∷ graphs) (loops ∷ nests) function zip there =
       | inr behind ↦ nest-in image graphs nests function zip.1 behind
     ]
 
-nest-of : (image : Image) (entry : ℕ) (nests : Nests) → AreLoops image entry nests → (function : ℕ) → IsFunction image entry function →
+nest-of : (image : Image) (entry : ℕ) (graphs : Graphs) (nests : Nests) → IsProgram image entry graphs nests → (function : ℕ) → IsFunction image entry function →
     (loops : List Loop) × IsNest image function loops
-nest-of image entry nests are function is = nest-in image are.graphs.graphs nests.nests function are.loops (are.drawn.whole function is)
+nest-of image entry graphs nests are function is = nest-in image graphs.graphs nests.nests function are.nests_are (are.graphs_are.whole function is)
 
 -- No function of the program has a fault of its loops.
-pub none-irreducible : (image : Image) (entry : ℕ) (nests : Nests) → AreLoops image entry nests → (place : ℕ) → IsIrreducibleIn image entry place → ⊥
-none-irreducible image entry nests are place fault =
-    let nest = nest-of image entry nests are fault.function fault.is in
+pub none-irreducible : (image : Image) (entry : ℕ) (graphs : Graphs) (nests : Nests) → IsProgram image entry graphs nests → (place : ℕ) → IsIrreducibleIn image entry place → ⊥
+none-irreducible image entry graphs nests are place fault =
+    let nest = nest-of image entry graphs nests are fault.function fault.is in
     ranks-reducible image fault.function nest.1.ranks place fault.here
 
-pub none-unbounded : (image : Image) (entry : ℕ) (nests : Nests) → AreLoops image entry nests → (place : ℕ) → IsUnboundedIn image entry place → ⊥
-none-unbounded image entry nests are place fault =
-    let nest = nest-of image entry nests are fault.function fault.is in
+pub none-unbounded : (image : Image) (entry : ℕ) (graphs : Graphs) (nests : Nests) → IsProgram image entry graphs nests → (place : ℕ) → IsUnboundedIn image entry place → ⊥
+none-unbounded image entry graphs nests are place fault =
+    let nest = nest-of image entry graphs nests are fault.function fault.is in
     nest-bounded image fault.function nest.0 nest.1 place fault.here
-
--- The first loops are those of the entry.
-first-in-nests : (image : Image) (first : Graph) (others : List Graph) (nests : List (List Loop)) (d : List Loop) → AllZip (IsNestOf image) (first ∷ others) nests →
-    (0 < length nests) × IsNest image first.entry (get_or nests 0 d)
-first-in-nests image first others [] d zip = absurd zip
-first-in-nests image first others (loops ∷ more) d zip = (omega arith, zip.0)
-
-first-nest : (image : Image) (entry : ℕ) (nests : Nests) → AreLoops image entry nests → (d : List Loop) →
-    (0 < length nests.nests) × IsNest image entry (get_or nests.nests 0 d)
-first-nest image entry nests are d =
-    let drawn = are.drawn in
-    let found = first-in-nests image drawn.first drawn.others nests.nests d
-    (subst (λ (graphs : List Graph). AllZip (IsNestOf image) graphs nests.nests) drawn.parts are.loops) in
-    (found.0, subst (λ (f : ℕ). IsNest image f (get_or nests.nests 0 d)) drawn.begins found.1)
-
-pub nests-some : (image : Image) (entry : ℕ) (nests : Nests) → AreLoops image entry nests → 0 < length nests.nests
-nests-some image entry nests are = (first-nest image entry nests are []).0
-
-pub entry-nest : (image : Image) (entry : ℕ) (nests : Nests) → AreLoops image entry nests → (d : List Loop) → IsNest image entry (get_or nests.nests 0 d)
-entry-nest image entry nests are d = (first-nest image entry nests are d).1

@@ -1,5 +1,5 @@
 -- What was read of the files that a form names.
-use Rattle.std.proofs.Common.{◌≡◌, ℕ, ◌≤◌, inl, inr, List, length, Option, Some, None, IfSome, Result, Ok, Err, IfOk, refl, sym, ap, subst, ◌∙◌}
+use Rattle.std.proofs.Common.{◌≡◌, ℕ, ◌≤◌, inl, inr, List, length, Option, Some, None, IfSome, Result, Ok, Err, IfOk, ap, subst, ◌∙◌}
 use Rattle.std.specs.Prelude.{option_map}
 use Rattle.std.proofs.lemmas.Bool.{le-ltb, lt-ltb}
 use Rattle.std.specs.declared.alloc.Global.{Global}
@@ -7,7 +7,7 @@ use Rattle.std.specs.declared.vec.Vec.{Vec}
 use Rattle.wcet_engine.specs.declared.answer.Answer.{Answer}
 use Rattle.wcet_engine.specs.declared.contents.Contents.{Contents}
 use Rattle.wcet_engine.specs.Answers.{IsAnswer, IsAnswerTo}
-use Rattle.wcet_engine.specs.Given.{AreRead, Given, IsFound, file_limit, given, given_of, with_config, with_elf}
+use Rattle.wcet_engine.specs.Given.{AreRead, Given, IsFound, file_limit, given, given_of, with_elf}
 
 -- The ELF file is too long.
 pub long-elf : (told : List ℕ → Option (List ℕ)) (config found : Option (List ℕ)) → IfSome found (IsFound None) →

@@ -5,7 +5,7 @@ use Rattle.std.proofs.lemmas.Option.{same_Some}
 use Rattle.cache_config.specs.Costs.{EachTakes}
 use Rattle.cache_config.specs.Defaults.{HasDefaults}
 use Rattle.cache_config.specs.Instructions.{cycles_of}
-use Rattle.cache_config.specs.Profiles.{IsProfileOf, Means, ReadsAs, ReadsCosts, span}
+use Rattle.cache_config.specs.Profiles.{Means, ReadsAs, ReadsCosts, span}
 use Rattle.cache_config.specs.Values.{costs_of}
 use Rattle.cache_config.specs.declared.profile.Cycles.{Cycles}
 use Rattle.cache_config.specs.declared.profile.Profile.{Profile}
@@ -22,7 +22,7 @@ use Rattle.mips_machine.specs.Image.{area_of, region_of}
 use Rattle.toml.specs.Data.{Members}
 use Rattle.wcet_engine.specs.Clash.{IsClash, IsSharedBy, given_regions}
 use Rattle.wcet_engine.specs.Faults.{GivesProfile}
-use Rattle.wcet_engine.specs.FileFaults.{entry_by, entry_of}
+use Rattle.wcet_engine.specs.FileFaults.{entry_by}
 use Rattle.wcet_engine.proofs.SameCosts.{HaveSameCosts}
 use Rattle.wcet_engine.proofs.SameImage.{IsSame}
 

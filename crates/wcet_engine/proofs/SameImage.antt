@@ -1,8 +1,9 @@
 -- Images with the same segments and records have the same program at an entry: its units, loops, nets and faults.
-use Rattle.std.proofs.Common.{◌≡◌, ℕ, ◌+◌, ◌<◌, inl, inr, cond, List, [], ◌∷◌, get_or, Contains, Option, Some, None, refl, ap, sym, subst, ◌∙◌}
+use Rattle.std.proofs.Common.{◌≡◌, ℕ, ◌+◌, ◌<◌, cond, List, Option, Some, None, refl, ap, subst, ◌∙◌}
 use Rattle.std.proofs.Math.Path.{fun_ext}
 use Rattle.cache_config.specs.Instructions.{costs_of}
 use Rattle.cache_config.specs.declared.profile.Profile.{Profile}
+use Rattle.call_contexts.proofs.SameSizes.{no_return-same, sizes-same}
 use Rattle.elf_mips.specs.declared.image.Image.{Image}
 use Rattle.elf_mips.specs.declared.segment.Segment.{Segment}
 use Rattle.elf_mips.specs.Segments.{code_at, is_writable_word}
@@ -14,30 +15,20 @@ use Rattle.ipet_program.specs.Programs.{crude_limit, crude_of, place_price, pric
 use Rattle.mips_decode.specs.Step.{fetched}
 use Rattle.net_model.specs.declared.unit.CodeKind.{CodeKind}
 use Rattle.net_model.specs.declared.unit.CodeKind.TheVariants as code
-use Rattle.net_model.specs.declared.unit.Content.{Content}
-use Rattle.net_model.specs.declared.unit.Content.TheVariants.{Unit as Stands, Fault}
+use Rattle.net_model.specs.declared.unit.Content.TheVariants.{Unit as Stands}
 use Rattle.net_model.specs.Units.{Word, Holds, Lacks, content_at, content_of, is_transfer, known, with_slot, word_at}
-use Rattle.net_model.specs.Reached.{IsReached}
-use Rattle.net_model.specs.Reached.{first as first_reached, next as next_reached}
-use Rattle.net_model.specs.Faults.{Offends}
-use Rattle.net_model.specs.Functions.{IsReached as IsCodeReached}
-use Rattle.net_model.specs.Net.{IsNet}
-use Rattle.net_model.proofs.SameCode.{IsSameCode, function-same, offends-same, reached-same as code_reached-same, stands-same as unit_stands-same}
+use Rattle.net_model.proofs.SameCode.{IsSameCode, function-same, offends-same}
 use Rattle.net_model.proofs.SameNets.{irreducible-same, net-same, unbounded-same}
 use Rattle.loop_nest.specs.Programs.{IsIrreducibleIn, IsUnboundedIn}
 use Rattle.wcet_engine.specs.declared.refusal.RefusalKind.{RefusalKind}
-use Rattle.wcet_engine.specs.declared.refusal.RefusalKind.TheVariants.{TooLong, ConfigText, ConfigKey, ConfigRange, Short, NotElf, NotThisKind, BadTable, BadSegment, BadSection, BadRecord, NoSymbol, RegionClash, Unbuilt, Unfollowed, WritableCode, UnknownWord, TransferInSlot, UnknownTarget, LinkRegister, Recursion, Irreducible, NoBound, NeverReturns, BoundTooLarge}
-use Rattle.wcet_engine.specs.ProgramFaults.{HasNoReturn, IsCodeFault, IsTooLarge, OffendsIn}
-use Rattle.wcet_engine.specs.Unbuilt.{IsUnbuiltAt}
+use Rattle.wcet_engine.specs.declared.refusal.RefusalKind.TheVariants.{TooLong, ConfigText, ConfigKey, ConfigRange, Short, NotElf, NotThisKind, BadTable, BadSegment, BadSection, BadRecord, NoSymbol, RegionClash, Unbuilt, WritableCode, UnknownWord, TransferInSlot, UnknownTarget, LinkRegister, Recursion, Irreducible, NoBound, NeverReturns, TooManyUnits, BoundTooLarge}
+use Rattle.wcet_engine.specs.ProgramFaults.{IsCodeFault, IsTooLarge, IsTooMany, OffendsIn}
 use Rattle.wcet_engine.proofs.SameCosts.{HaveSameCosts, same-price}
 
 -- Two images with the same segments and records.
 pub record IsSame (a b : Image) : Type 0 where
   pub segments : a.segments ≡ b.segments
   pub marks : a.marks ≡ b.marks
-
-turned : (a b : Image) → IsSame a b → IsSame b a
-turned a b same = record { segments = sym same.segments; marks = sym same.marks }
 
 word-same : (a b : Image) (address : ℕ) → IsSame a b → word_at a address ≡ word_at b address
 word-same a b address same =
@@ -54,14 +45,6 @@ pub content-same : (a b : Image) (address : ℕ) → IsSame a b → content_at a
 content-same a b address same =
     content_of-same a b address (word_at a address) same ∙ ap (content_of b address) (word-same a b address same)
 
-stands-same : (a b : Image) (address : ℕ) (content : Content) → IsSame a b → content_at a address ≡ content → content_at b address ≡ content
-stands-same a b address content same stands = sym (content-same a b address same) ∙ stands
-
-pub reached-same : (a b : Image) (entry : ℕ) → IsSame a b → (address : ℕ) → IsReached a entry address → IsReached b entry address
-reached-same a b entry same _ first_reached = first_reached
-reached-same a b entry same _ (next_reached address later unit before stands here) =
-    next_reached address later unit (reached-same a b entry same address before) (stands-same a b address (Stands unit) same stands) here
-
 -- Images that are the same so far have the same code.
 code-of : (a b : Image) → IsSame a b → IsSameCode a b
 code-of a b same = record { contents = λ address. content-same a b address same; marks = same.marks }
@@ -74,16 +57,6 @@ price-same : (a b : Image) (profile : Profile) (net : Net) → IsSame a b → pl
 price-same a b profile net same = fun_ext (λ number. price_at-same a b profile (item_at number net.places) same)
 
 -- What is said of the program of an image holds of that of another one that is the same so far.
-unbuilt-same : (a b : Image) (entry place : ℕ) → IsSame a b → IsUnbuiltAt a entry place → IsUnbuiltAt b entry place
-unbuilt-same a b entry place same unbuilt = record {
-  reached = reached-same a b entry same place unbuilt.reached;
-  left = record {
-    unit = unbuilt.left.unit;
-    stands = stands-same a b place (Stands unbuilt.left.unit) same unbuilt.left.stands;
-    left = unbuilt.left.left;
-  };
-}
-
 cycle-same : (a b : Image) (entry place : ℕ) → IsSame a b → IsIrreducibleIn a entry place → IsIrreducibleIn b entry place
 cycle-same a b entry place same fault = record {
   function = fault.function;
@@ -118,10 +91,13 @@ large-same a b profile other entry same costs is =
       large = λ holds told. subst (λ (price : ℕ → ℕ). crude_limit < crude_of is.net holds price) price (is.large holds told);
     }
 
-no_return-same : (a b : Image) (entry : ℕ) → IsSame a b → HasNoReturn a entry → HasNoReturn b entry
-no_return-same a b entry same none address unit reached stands =
-    let code = code-of b a (turned a b same) in
-    none address unit (code_reached-same b a code entry address reached) (unit_stands-same b a address (Stands unit) code stands)
+many-same : (a b : Image) (entry : ℕ) → IsSame a b → IsTooMany a entry → IsTooMany b entry
+many-same a b entry same is = record {
+  contexts = is.contexts;
+  places = is.places;
+  sizes = sizes-same a b entry is.contexts is.places (code-of a b same) is.sizes;
+  many = is.many;
+}
 
 -- So are the faults of the program, under profiles with the same costs.
 pub program-same : (a b : Image) (profile other : Profile) (entry : ℕ) (kind : RefusalKind) (place : ℕ) → IsSame a b →
@@ -140,7 +116,6 @@ program-same a b profile other entry BadRecord place same costs offends = absurd
 program-same a b profile other entry NoSymbol place same costs offends = absurd offends
 program-same a b profile other entry RegionClash place same costs offends = absurd offends
 program-same a b profile other entry Unbuilt place same costs offends = absurd offends
-program-same a b profile other entry Unfollowed place same costs offends = unbuilt-same a b entry place same offends
 program-same a b profile other entry WritableCode place same costs offends = fault-same a b entry code.WritableCode place same offends
 program-same a b profile other entry UnknownWord place same costs offends = fault-same a b entry code.UnknownWord place same offends
 program-same a b profile other entry TransferInSlot place same costs offends = fault-same a b entry code.TransferInSlot place same offends
@@ -149,5 +124,6 @@ program-same a b profile other entry LinkRegister place same costs offends = fau
 program-same a b profile other entry Recursion place same costs offends = fault-same a b entry code.Recursion place same offends
 program-same a b profile other entry Irreducible place same costs offends = fault-same a b entry code.Irreducible place same offends
 program-same a b profile other entry NoBound place same costs offends = fault-same a b entry code.NoBound place same offends
-program-same a b profile other entry NeverReturns place same costs offends = (offends.0, no_return-same a b entry same offends.1)
+program-same a b profile other entry NeverReturns place same costs offends = (offends.0, no_return-same a b entry (code-of a b same) offends.1)
+program-same a b profile other entry TooManyUnits place same costs offends = (offends.0, many-same a b entry same offends.1)
 program-same a b profile other entry BoundTooLarge place same costs offends = (offends.0, large-same a b profile other entry same costs offends.1)

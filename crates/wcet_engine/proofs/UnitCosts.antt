@@ -1,6 +1,7 @@
 -- A step at a unit costs the unit's cycles.
 use Rattle.std.proofs.Common.{◌≡◌, ℕ, ◌+◌, Bool, true, false, List, ◌∷◌, Option, Some, None, refl, ap, ◌∙◌, inl, inr, arith}
 use Rattle.std.specs.Prelude.{option_map, sum_by}
+use Rattle.elf_mips.specs.declared.image.Image.{Image}
 use Rattle.mips_decode.specs.declared.instr.Instr.{Instr}
 use Rattle.mips_decode.specs.declared.instr.Instr.TheVariants.{Three, Shift, HiLo, MulDiv, Imm, Lui, Load, Store, Branch, Jump, JumpReg, JumpLink, Stop}
 use Rattle.mips_decode.specs.declared.step.Touched.{Touched}
@@ -94,8 +95,8 @@ by_end costs done next later step (inl went) = ap (step_cost costs) went.0
 by_end costs done next later step (inr returned) = ap (step_cost costs) returned.0
 
 -- The cycles of a step at a unit are the unit's.
-pub step_cost-unit : (costs : Costs) (unit : CodeUnit) (s next : State) (later : List State) (step : Stepped) →
-    IsAlone unit.instr unit.slot → UnitGoes unit s next later step → step_cost costs step ≡ unit_cost costs unit
-step_cost-unit costs unit s next later step alone goes =
+pub step_cost-unit : (costs : Costs) (image : Image) (unit : CodeUnit) (s next : State) (later : List State) (step : Stepped) →
+    IsAlone unit.instr unit.slot → UnitGoes image unit s next later step → step_cost costs step ≡ unit_cost costs unit
+step_cost-unit costs image unit s next later step alone goes =
     by_end costs goes.done next later step goes.ends
     ∙ done-cost costs goes.done unit alone goes.instructions goes.touches

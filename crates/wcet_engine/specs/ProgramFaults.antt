@@ -1,7 +1,9 @@
 -- The program at an entry of an image, under a profile: its faults, which of them is answered, and what its analysis
 -- says where it has none.
-use Rattle.std.specs.Prelude.{◌≡◌, ℕ, ◌<◌, ◌≤ℤ◌, pos, Bool, false}
+use Rattle.std.specs.Prelude.{◌≡◌, ℕ, ◌<◌, ◌≤ℤ◌, pos, Bool}
 use Rattle.cache_config.specs.declared.profile.Profile.{Profile}
+use Rattle.call_contexts.specs.Programs.{AreTooMany, HasNoReturn}
+use Rattle.call_contexts.specs.Sizes.{AreSizes}
 use Rattle.elf_mips.specs.declared.image.Image.{Image}
 use Rattle.flow_net.specs.declared.net.Net.{Net}
 use Rattle.ipet_program.specs.Certificates.{IsValid}
@@ -12,23 +14,17 @@ use Rattle.ipet_program.specs.declared.program.Program.{Program}
 use Rattle.loop_nest.specs.Programs.{IsIrreducibleIn, IsUnboundedIn}
 use Rattle.net_model.specs.declared.unit.CodeKind.{CodeKind}
 use Rattle.net_model.specs.declared.unit.CodeKind.TheVariants as code
-use Rattle.net_model.specs.declared.unit.CodeUnit.{CodeUnit}
-use Rattle.net_model.specs.declared.unit.Content.TheVariants.{Unit as Stands}
 use Rattle.net_model.specs.Faults.{Offends as IsCodeOffender}
-use Rattle.net_model.specs.Functions.{IsReached}
 use Rattle.net_model.specs.Net.{IsNet}
-use Rattle.net_model.specs.Onward.{returns}
-use Rattle.net_model.specs.Targets.{unit_at}
 use Rattle.unit_graph.specs.declared.fault.CodeFault.{CodeFault}
 use Rattle.unit_graph.specs.declared.fault.CodeFault.TheVariants as code_fault
 use Rattle.wcet_engine.specs.declared.analysis.Analysis.{Analysis}
 use Rattle.wcet_engine.specs.declared.analysis.Refused.{Refused}
 use Rattle.wcet_engine.specs.declared.analysis.Refused.TheVariants.{Fault, Memory}
 use Rattle.wcet_engine.specs.declared.refusal.RefusalKind.{RefusalKind}
-use Rattle.wcet_engine.specs.declared.refusal.RefusalKind.TheVariants.{Unfollowed, WritableCode, UnknownWord, TransferInSlot, UnknownTarget, LinkRegister, Recursion, Irreducible, NoBound, NeverReturns, BoundTooLarge}
+use Rattle.wcet_engine.specs.declared.refusal.RefusalKind.TheVariants.{WritableCode, UnknownWord, TransferInSlot, UnknownTarget, LinkRegister, Recursion, Irreducible, NoBound, NeverReturns, TooManyUnits, BoundTooLarge}
 use Rattle.wcet_engine.specs.Refusals.{at_number, kind_of_code, rank, says_at}
 use Rattle.wcet_engine.specs.Sentence.{Bounds}
-use Rattle.wcet_engine.specs.Unbuilt.{IsUnbuiltAt}
 
 -- The program's code has a fault of the kind at the place: a reached address holds it, a function calls itself, a unit
 -- lies on a cycle without back arcs, or a loop has no bound.
@@ -37,18 +33,19 @@ IsCodeFault code.Irreducible image entry place = IsIrreducibleIn image entry pla
 IsCodeFault code.NoBound image entry place = IsUnboundedIn image entry place
 IsCodeFault kind image entry place = IsCodeOffender image entry kind place
 
--- No unit that the entry function reaches returns.
-abbrev pub HasNoReturn : Image → ℕ → Type 0
-HasNoReturn image entry =
-    (address : ℕ) (unit : CodeUnit) → IsReached image entry address → unit_at image address ≡ Stands unit →
-    returns unit ≡ false
+-- The program has more contexts or places than a net may have.
+pub record IsTooMany (image : Image) (entry : ℕ) : Type 0 where
+  pub contexts : ℕ
+  pub places : ℕ
+  pub sizes : AreSizes image entry contexts places
+  pub many : AreTooMany contexts places
 
 -- The crude bound of a net is above its limit: the price of each place, times the bounds of the loops that hold it.
 abbrev pub IsLargeNet : Image → Profile → Net → Type 0
 IsLargeNet image profile net =
     (holds : ℕ → ℕ → Bool) → TellsHeld net holds → crude_limit < crude_of net holds (place_price profile image net)
 
--- The crude bound of the entry function's net is above its limit.
+-- The crude bound of the program's net is above its limit.
 pub record IsTooLarge (image : Image) (profile : Profile) (entry : ℕ) : Type 0 where
   pub net : Net
   pub is_net : IsNet image entry net
@@ -56,7 +53,6 @@ pub record IsTooLarge (image : Image) (profile : Profile) (entry : ℕ) : Type 0
 
 -- A kind has an offender in the program at a place. All other kinds are found before the program is looked at.
 abbrev pub OffendsIn : Image → Profile → ℕ → RefusalKind → ℕ → Type 0
-OffendsIn image profile entry Unfollowed place = IsUnbuiltAt image entry place
 OffendsIn image profile entry WritableCode place = IsCodeFault code.WritableCode image entry place
 OffendsIn image profile entry UnknownWord place = IsCodeFault code.UnknownWord image entry place
 OffendsIn image profile entry TransferInSlot place = IsCodeFault code.TransferInSlot image entry place
@@ -66,6 +62,7 @@ OffendsIn image profile entry Recursion place = IsCodeFault code.Recursion image
 OffendsIn image profile entry Irreducible place = IsCodeFault code.Irreducible image entry place
 OffendsIn image profile entry NoBound place = IsCodeFault code.NoBound image entry place
 OffendsIn image profile entry NeverReturns place = (place ≡ entry) × HasNoReturn image entry
+OffendsIn image profile entry TooManyUnits place = (place ≡ entry) × IsTooMany image entry
 OffendsIn image profile entry BoundTooLarge place = (place ≡ entry) × IsTooLarge image profile entry
 OffendsIn image profile entry kind place = ⊥
 
@@ -80,7 +77,7 @@ abbrev pub TellsFaultIn : Image → Profile → ℕ → Refused → Type 0
 TellsFaultIn image profile entry (Fault refusal) = says_at (IsFirstFaultIn image profile entry refusal.kind) refusal.spot
 TellsFaultIn image profile entry Memory = Unit {0}
 
--- What an analysis says of a program without a fault: the net of its entry function, the net's program under the
+-- What an analysis says of a program without a fault: its net, the net's integer program under the
 -- profile, and that the certificate is valid for this program: no counts that the program allows have a value above its
 -- bound, and its own counts have this value. No run that the sentence speaks of takes more cycles.
 pub record IsAnalysisOf (image : Image) (profile : Profile) (entry : ℕ) (analysis : Analysis) : Type 0 where

@@ -8,7 +8,7 @@ use Rattle.wcet_engine.specs.declared.refusal.Refusal.{Refusal}
 use Rattle.wcet_engine.specs.declared.refusal.RefusalKind.{RefusalKind}
 use Rattle.wcet_engine.specs.declared.refusal.Spot.{Spot}
 use Rattle.wcet_engine.specs.declared.refusal.Spot.TheVariants.{Number, Key}
-use Rattle.wcet_engine.specs.declared.refusal.RefusalKind.TheVariants.{TooLong, ConfigText, ConfigKey, ConfigRange, Short, NotElf, NotThisKind, BadTable, BadSegment, BadSection, BadRecord, NoSymbol, RegionClash, Unbuilt, Unfollowed, WritableCode, UnknownWord, TransferInSlot, UnknownTarget, LinkRegister, Recursion, Irreducible, NoBound, NeverReturns, BoundTooLarge}
+use Rattle.wcet_engine.specs.declared.refusal.RefusalKind.TheVariants.{TooLong, ConfigText, ConfigKey, ConfigRange, Short, NotElf, NotThisKind, BadTable, BadSegment, BadSection, BadRecord, NoSymbol, RegionClash, Unbuilt, WritableCode, UnknownWord, TransferInSlot, UnknownTarget, LinkRegister, Recursion, Irreducible, NoBound, NeverReturns, TooManyUnits, BoundTooLarge}
 
 -- A fault at a place that is a number.
 abbrev pub at_number : RefusalKind → ℕ → Refusal
@@ -39,17 +39,17 @@ rank BadRecord = 10
 rank NoSymbol = 11
 rank RegionClash = 12
 rank Unbuilt = 13
-rank Unfollowed = 14
-rank WritableCode = 15
-rank UnknownWord = 16
-rank TransferInSlot = 17
-rank UnknownTarget = 18
-rank LinkRegister = 19
-rank Recursion = 20
-rank Irreducible = 21
-rank NoBound = 22
-rank NeverReturns = 23
-rank BoundTooLarge = 25
+rank WritableCode = 14
+rank UnknownWord = 15
+rank TransferInSlot = 16
+rank UnknownTarget = 17
+rank LinkRegister = 18
+rank Recursion = 19
+rank Irreducible = 20
+rank NoBound = 21
+rank NeverReturns = 22
+rank TooManyUnits = 23
+rank BoundTooLarge = 24
 
 -- The name of a kind in a refusal line.
 abbrev pub name_of : RefusalKind → List ℕ
@@ -67,7 +67,6 @@ name_of BadRecord = codes "bad-record"
 name_of NoSymbol = codes "no-symbol"
 name_of RegionClash = codes "region-clash"
 name_of Unbuilt = codes "unbuilt"
-name_of Unfollowed = codes "unbuilt"
 name_of WritableCode = codes "writable-code"
 name_of UnknownWord = codes "unknown-word"
 name_of TransferInSlot = codes "transfer-in-slot"
@@ -77,6 +76,7 @@ name_of Recursion = codes "recursion"
 name_of Irreducible = codes "irreducible"
 name_of NoBound = codes "no-bound"
 name_of NeverReturns = codes "never-returns"
+name_of TooManyUnits = codes "too-many-units"
 name_of BoundTooLarge = codes "bound-too-large"
 
 -- The kind of a fault of the reader.

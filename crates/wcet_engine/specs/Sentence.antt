@@ -7,7 +7,7 @@ use Rattle.mips_decode.specs.Run.{HasReturned}
 use Rattle.mips_decode.specs.Calls.{ReturnsToCallers}
 use Rattle.mips_machine.specs.Machine.{Machine, IsMachineStart}
 use Rattle.mips_machine.specs.Run.{IsMachineRun, last_machine, values_of}
-use Rattle.wcet_engine.specs.Records.{KeepsRecords}
+use Rattle.net_model.specs.Runs.{KeepsRecords}
 
 -- What the sentence asks of a run: it joins, keeps the records, returns to its callers, and its entry returned.
 pub record IsSpokenOf (image : Image) (entry : ℕ) (m : Machine) (machines : List Machine) : Type 0 where

@@ -110,38 +110,6 @@ fn refuses_faults_of_the_code(rt: HostRuntime) -> Result<(), Fail> {
 }
 
 #[test]
-fn refuses_units_that_are_not_built(rt: HostRuntime) -> Result<(), Fail> {
-    let alloc = rt.alloc();
-    let rows: [(&[u32], &str); 6] = [
-        (&[0x0C10_0000, 0, RETURN, 0], "refused unbuilt 00400000\n"),
-        (&[0, 0x0100_0008, 0], "refused unbuilt 00400004\n"),
-        // JR $8 on the one way, JAL on the other.
-        (
-            &[0x1080_0003, 0, 0x0100_0008, 0, 0x0C10_0000, 0],
-            "refused unbuilt 00400008\n",
-        ),
-        // A unit that isn't built is answered before an unknown word.
-        (
-            &[0x1080_0003, 0, 0xFFFF_FFFF, 0, 0x0C10_0000, 0],
-            "refused unbuilt 00400010\n",
-        ),
-        // A loop without a bound, and then a call: the call is answered first.
-        (
-            &[0x2408_0005, 0x2508_FFFF, 0x1500_FFFE, 0, 0x0C10_0000, 0],
-            "refused unbuilt 00400010\n",
-        ),
-        // BGEZAL of register 4 may call.
-        (&[0x0491_0001, 0, RETURN, 0], "refused unbuilt 00400000\n"),
-    ];
-    for (words, line) in rows {
-        let got = line_of(alloc, words)?;
-        assert_eq!(rt; got.0, Status::Refused);
-        assert_eq!(rt; got.1.as_slice(), line.as_bytes());
-    }
-    Ok(())
-}
-
-#[test]
 fn refuses_by_flags_and_entry(rt: HostRuntime) -> Result<(), Fail> {
     let alloc = rt.alloc();
     let file = file_of(alloc, &[RETURN, 0])?;

@@ -3,23 +3,21 @@
 
 mod analysis;
 mod answer;
-mod around;
+#[cfg(test)]
+mod call_tests;
 mod certificate;
 mod clash;
-mod code;
 #[cfg(test)]
 mod code_tests;
 mod contents;
 #[cfg(test)]
 mod loop_tests;
-mod net;
 #[cfg(test)]
 mod profile_tests;
 mod program;
 mod refusal;
 #[cfg(test)]
 mod section_tests;
-mod table;
 #[cfg(test)]
 mod tests;
 mod text;

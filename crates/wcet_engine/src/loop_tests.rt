@@ -10,7 +10,7 @@ use std::test::Fail;
 /// An executable of one segment of flags 5 that holds these words, entered at its first one, with these
 /// records in a section `.wcet`.
 pub fn file_with(alloc: Global, words: &[u32], records: &[[u32; 4]]) -> Result<Vec<u8>, AllocError>
-    requires words { length words.now ≤ 64 }
+    requires words { length words.now ≤ 128 }
     requires records { length records.now ≤ 64 }
 {
     let size = 4 * words.len() as u32;

@@ -38,20 +38,17 @@ pub enum RefusalKind {
     RegionClash,
     /// The profile has caches, which aren't analysed yet. The place is 0.
     Unbuilt,
-    /// The entry reaches a call or an indirect jump, which aren't analysed yet: `unbuilt`. The place is the
-    /// unit's address.
-    Unfollowed,
     /// A reached word lies in a segment that can be executed and written. The place is its address.
     WritableCode,
     /// A reached address holds no executable word, or one of no instruction. The place is the address.
     UnknownWord,
     /// A delay slot holds a jump or branch. The place is the slot's address.
     TransferInSlot,
-    /// A reached indirect jump or call has no recorded target. It doesn't come yet.
+    /// A reached indirect jump or call has no recorded target. The place is its address.
     UnknownTarget,
-    /// A reached JALR links to another register than 31. It doesn't come yet.
+    /// A reached JALR links to another register than 31. The place is its address.
     LinkRegister,
-    /// A function calls itself, directly or through others. It doesn't come yet.
+    /// A function calls itself, directly or through others. The place is its entry.
     Recursion,
     /// A unit lies on a cycle without back arcs. The place is its address.
     Irreducible,
@@ -59,6 +56,8 @@ pub enum RefusalKind {
     NoBound,
     /// The entry function never returns. The place is its entry.
     NeverReturns,
+    /// There are more than 16,384 contexts or 65,536 places. The place is the entry.
+    TooManyUnits,
     /// The crude bound is above 2^63 - 1. The place is the entry.
     BoundTooLarge,
 }
@@ -156,7 +155,6 @@ impl RefusalKind {
             RefusalKind::NoSymbol => "no-symbol",
             RefusalKind::RegionClash => "region-clash",
             RefusalKind::Unbuilt => "unbuilt",
-            RefusalKind::Unfollowed => "unbuilt",
             RefusalKind::WritableCode => "writable-code",
             RefusalKind::UnknownWord => "unknown-word",
             RefusalKind::TransferInSlot => "transfer-in-slot",
@@ -166,6 +164,7 @@ impl RefusalKind {
             RefusalKind::Irreducible => "irreducible",
             RefusalKind::NoBound => "no-bound",
             RefusalKind::NeverReturns => "never-returns",
+            RefusalKind::TooManyUnits => "too-many-units",
             RefusalKind::BoundTooLarge => "bound-too-large",
         }
     }

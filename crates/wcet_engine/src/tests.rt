@@ -52,7 +52,7 @@ pub fn file_of(alloc: Global, words: &[u32]) -> Result<Vec<u8>, AllocError>
 }
 
 /// The words as texts.
-fn texts(alloc: Global, words: &[&str]) -> Result<Vec<String>, Fail> {
+pub fn texts(alloc: Global, words: &[&str]) -> Result<Vec<String>, Fail> {
     let mut owned = Vec::new(alloc);
     for word in words {
         owned.push(String::from_str(alloc, word)?)?;

@@ -1,5 +1,5 @@
 -- Each answer is the first fault of the file under the profile, or an analysis of a file without one.
-use Rattle.std.proofs.Common.{◌≡◌, ℕ, Option, Some, None, sym, ◌∙◌}
+use Rattle.std.proofs.Common.{◌≡◌, Some, None, sym, ◌∙◌}
 use Rattle.std.proofs.lemmas.Result.{err_from_is_err_and}
 use Rattle.wcet_engine.specs.Clash.{IsClash}
 use Rattle.wcet_engine.specs.FileFaults.{entry_of}

@@ -1,7 +1,0 @@
--- The units so far are noted.
-use Rattle.std.proofs.Common.{take}
-use Rattle.wcet_engine.specs.Around.{AreNearing}
-use Rattle.wcet_engine.proofs.around.note_body.Given as goal
-
-abbrev pub invariant-loop-address : goal.invariant-loop-address
-invariant-loop-address l = AreNearing l.reached l.loops l.position (take l.address-index l.body) l.around

@@ -1,0 +1,77 @@
+-- What the stages of an analysis say of an image.
+use Rattle.std.specs.Prelude.{◌≡◌, ℕ, ◌<◌, ◌≤◌, ◌⊎◌, List, length}
+use Rattle.cache_config.specs.declared.profile.Profile.{Profile}
+use Rattle.call_contexts.specs.Programs.{HasNoReturn, HasUnits}
+use Rattle.call_contexts.specs.Sizes.{AreSizes, most_contexts, most_places}
+use Rattle.elf_mips.specs.Segments.{code_at}
+use Rattle.elf_mips.specs.declared.image.Image.{Image}
+use Rattle.flow_net.specs.Nested.{IsNested}
+use Rattle.flow_net.specs.declared.net.Net.{Net}
+use Rattle.ipet_program.specs.Certificates.{IsValid}
+use Rattle.ipet_program.specs.Programs.{IsCheckable, IsProgramOf, place_price}
+use Rattle.ipet_program.specs.declared.certificate.Certificate.{Certificate}
+use Rattle.ipet_program.specs.declared.program.Program.{Program}
+use Rattle.mips_decode.specs.State.{State}
+use Rattle.nest_solver.specs.Tables.{IsFew}
+use Rattle.net_model.specs.declared.unit.CodeKind.{CodeKind}
+use Rattle.net_model.specs.Faults.{rank as code_rank}
+use Rattle.net_model.specs.Functions.{CanReturn}
+use Rattle.net_model.specs.Net.{IsNet}
+use Rattle.net_model.specs.Runs.{GoesAlong, IsKeptRun}
+use Rattle.wcet_engine.specs.declared.analysis.Refused.{Refused}
+use Rattle.wcet_engine.specs.declared.analysis.Refused.TheVariants.{Fault, Memory}
+use Rattle.wcet_engine.specs.declared.refusal.Refusal.{Refusal}
+use Rattle.wcet_engine.specs.declared.refusal.RefusalKind.{RefusalKind}
+use Rattle.wcet_engine.specs.declared.refusal.RefusalKind.TheVariants.{NeverReturns, TooManyUnits, BoundTooLarge}
+use Rattle.wcet_engine.specs.ProgramFaults.{IsCodeFault, IsTooLarge, IsTooMany}
+use Rattle.wcet_engine.specs.Refusals.{at_number, kind_of_code, says_at}
+
+-- The first fault of the code and its loops.
+pub record IsCodeRefusal (image : Image) (entry : ℕ) (kind : RefusalKind) (place : ℕ) : Type 0 where
+  pub fault : CodeKind
+  pub same : kind ≡ kind_of_code fault
+  pub offends : IsCodeFault fault image entry place
+  pub first : (other : CodeKind) (spot : ℕ) → code_rank other < code_rank fault → IsCodeFault other image entry spot → ⊥
+  pub least : (lesser : ℕ) → lesser < place → IsCodeFault fault image entry lesser → ⊥
+
+abbrev pub TellsCode : Image → ℕ → Refused → Type 0
+TellsCode image entry (Fault refusal) = says_at (IsCodeRefusal image entry refusal.kind) refusal.spot
+TellsCode image entry Memory = Unit {0}
+
+-- Why a program without a fault of its code has no net: its entry function never returns, or else it has too many
+-- contexts or places.
+abbrev pub IsNetRefusal : Image → (entry : ℕ) → Refusal → Type 0
+IsNetRefusal image entry refusal =
+    ((refusal ≡ at_number NeverReturns entry) × HasNoReturn image entry)
+    ⊎ ((refusal ≡ at_number TooManyUnits entry) × CanReturn image entry × IsTooMany image entry)
+
+abbrev pub TellsNoNet : Image → ℕ → Refused → Type 0
+TellsNoNet image entry (Fault refusal) = IsNetRefusal image entry refusal
+TellsNoNet image entry Memory = Unit {0}
+
+-- The net of a program whose entry function can return, within the limits: a unit stands at each of its places, and
+-- each run that keeps the records goes along a path of it.
+pub record IsNetOf (image : Image) (entry : ℕ) (net : Net) : Type 0 where
+  pub is_net : IsNet image entry net
+  pub nested : IsNested net
+  pub units : HasUnits image net
+  pub few : IsFew net
+  pub contexts : length net.contexts ≤ most_contexts
+  pub places : length net.places ≤ most_places
+  pub sizes : AreSizes image entry (length net.contexts) (length net.places)
+  pub can_return : CanReturn image entry
+  pub paths : (s : State) (states : List State) → IsKeptRun image entry s states →
+      GoesAlong net (code_at image.segments) s states
+
+-- A certificate of the program of a net, which shows the bound that its counts reach.
+pub record Certifies (image : Image) (profile : Profile) (net : Net) (certificate : Certificate) : Type 0 where
+  pub program : Program
+  pub is : IsProgramOf net (place_price profile image net) program
+  pub checkable : IsCheckable program
+  pub valid : IsValid program certificate
+  pub reached : certificate.reached ≡ certificate.bound
+
+-- The crude bound of the program's net is too large.
+abbrev pub TellsTooLarge : Image → Profile → ℕ → Refused → Type 0
+TellsTooLarge image profile entry (Fault refusal) = (refusal ≡ at_number BoundTooLarge entry) × IsTooLarge image profile entry
+TellsTooLarge image profile entry Memory = Unit {0}
