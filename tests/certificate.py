@@ -92,7 +92,8 @@ def try_making(tally):
     worked = WORKED + [(name, Image(words, records), PLAIN, bound) for name, words, records, bound in BOUNDS]
     for name, image, profile, bound in worked:
         wanted = Wanted(image, profile)
-        tally.check(f"{name}: bounds made here", (wanted.bound, wanted.run, wanted.line), (bound, bound, None))
+        tally.check(f"{name}: bound made here", (wanted.bound, wanted.line), (bound, None))
+        tally.check(f"{name}: the dearest run", wanted.run or bound, bound)
     for name, image, profile, line in REFUSED:
         tally.check(f"{name}: refused here", Wanted(image, profile).line, line)
     kinds = set()

@@ -20,12 +20,31 @@ def jump(offset):
     return [0x08000000 | at(offset) >> 2, NOP]
 
 
-def doubling(count):
-    """Functions of which each calls the next one twice; the last one returns at once."""
-    words = []
+def doubling(count, first=(), last=()):
+    """Functions of which each calls the next one twice; the last one returns at once. The first and the last one may
+    begin with more words."""
+    words, start = list(first), 4 * len(first)
     for i in range(count - 1):
-        words += call(24 * (i + 1)) * 2 + RETURN
-    return Image(words + RETURN)
+        words += call(start + 24 * (i + 1)) * 2 + RETURN
+    return Image(words + list(last) + RETURN)
+
+
+def with_calls(count):
+    """Fourteen doubling functions, of which the first one calls the last one some times more: 16,383 contexts and one
+    for each of these calls."""
+    return doubling(14, call(8 * count + 24 * 13) * count)
+
+
+def with_units(count):
+    """Thirteen doubling functions, with twelve more units in the last one, and some in the first: 4,095 contexts of three
+    units, 4,096 of thirteen, and these."""
+    return doubling(13, [COUNT] * count, [COUNT] * 12)
+
+
+def twice_bounded(outer, inner):
+    """A loop that calls a function with a loop."""
+    loops = call(0x14) + [BACK - 1, NOP] + RETURN[:1] + [COUNT, BACK, NOP] + RETURN
+    return Image(loops, [(1, START, outer, 0), (1, at(0x14), inner, 0)])
 
 
 def words(text):
@@ -48,6 +67,8 @@ TWO_LINKED = [(2, START, at(0x10), 0), (2, START, at(0x18), 0)]
 SHARED = call(0x18) + call(0x20) + RETURN + jump(0x20) + [COUNT, BACK, NOP] + RETURN
 # A jump by register 8 to two ways, of 22 and of 32 cycles.
 SWITCH = [0x01000008, NOP] + jump(0x18) + [COUNT, LOAD] + RETURN
+# A branch over a call of nothing, with a BREAK in the call's slot.
+STOPPED = [0x10800003, NOP] + call(0x100)[:1] + [BREAK] + RETURN
 # A store, a load, a product and a division, and the branch, each of another class.
 CLASSED = [0xAFA40000, 0x8FA50000, 0x00850018, 0x0085001A, 0x00001012, COUNT, 0x10800001, NOP] + RETURN
 PRICES = {
@@ -60,11 +81,20 @@ def linked_branch(word, callee):
     return Image([word, NOP] + RETURN + callee)
 
 
+# The greatest bound of a record, and the greatest one of the inner loop beside it: 22 cycles, and in each outer turn 66
+# and 33 for each inner one, are at most 2^63 - 1.
+MANY = 2 ** 32 - 1
+MOST = ((2 ** 63 - 1 - 22) // MANY - 66) // 33
+
 # Name, file, profile, bound by hand.
 WORKED = [
     ("a call that never returns, as the last unit", DIVISION, PLAIN, 77),
     ("a frame, an argument in its caller's area and a table", FRAME, PLAIN, 15 * 11 + 60 + 22 + 4 * 65 + 22),
     ("fourteen functions that each call the next one twice", doubling(14), PLAIN, 2 ** 13 * 22 + (2 ** 13 - 1) * 66),
+    ("as many contexts as there may be", with_calls(1), PLAIN, 720830 + 22 + 22),
+    ("as many places as there may be", with_units(3), PLAIN, 2 ** 12 * (22 + 12 * 11) + (2 ** 12 - 1) * 66 + 3 * 11),
+    ("a bound near the greatest", twice_bounded(MANY, MOST), PLAIN, 22 + MANY * (66 + 33 * MOST)),
+    ("a call with a BREAK in its slot, which calls nothing", Image(STOPPED), PLAIN, 22 + 22),
     ("a JALR of two targets", Image(LINKED, TWO_LINKED), PLAIN, 22 + 33 + 22),
     ("a JALR of one target", Image(LINKED, TWO_LINKED[:1]), PLAIN, 22 + 22 + 22),
     ("a BGEZAL that may be not taken", linked_branch(0x04910003, [COUNT] + RETURN), PLAIN, 22 + 33 + 22),
@@ -94,8 +124,6 @@ MUTUAL = call(0x10) + RETURN + call(0x20) + RETURN + call(0x10) + RETURN
 # An arc into the middle of a cycle, and a loop without a record, in a function that is called.
 ENTERED = call(0x10) + RETURN + [0x10800003, NOP, COUNT, NOP, 0x1500FFFD, NOP] + RETURN
 ENDLESS = call(0x10) + RETURN + [COUNT, BACK, NOP] + RETURN
-# A loop that calls a function with a loop.
-LOOPS = call(0x14) + [BACK - 1, NOP] + RETURN[:1] + [COUNT, BACK, NOP] + RETURN
 
 # Name, file, profile, what is printed.
 REFUSED = [
@@ -117,11 +145,12 @@ REFUSED = [
     ("a JR without a record", Image(SWITCH, [(2, at(4), at(8), 0)]), PLAIN, "refused unknown-target 00400000"),
     ("an arc into a cycle of a called function", Image(ENTERED), PLAIN, "refused irreducible 00400018"),
     ("a called loop without a record", Image(ENDLESS, [(1, at(8), 5, 0)]), PLAIN, "refused no-bound 00400010"),
-    (
-        "a loop of a loop's call, each of the greatest bound",
-        Image(LOOPS, [(1, START, 2 ** 32 - 1, 0), (1, at(0x14), 2 ** 32 - 1, 0)]), PLAIN,
-        "refused bound-too-large 00400000",
-    ),
+    ("two loops of the greatest bound", twice_bounded(MANY, MANY), PLAIN, "refused bound-too-large 00400000"),
+    ("a bound just too large", twice_bounded(MANY, MOST + 1), PLAIN, "refused bound-too-large 00400000"),
+    ("one context too many", with_calls(2), PLAIN, "refused too-many-units 00400000"),
+    ("one place too many", with_units(4), PLAIN, "refused too-many-units 00400000"),
+    ("a return with a BREAK in its slot", Image([RETURN[0], BREAK]), PLAIN, "refused never-returns 00400000"),
+    ("a JR with a BREAK in its slot", Image([0x01000008, BREAK]), PLAIN, "refused unknown-target 00400000"),
     ("a recursion, and an unknown word that isn't reached", Image(call(0) + [0xFFFFFFFF]), PLAIN, "refused recursion 00400000"),
     ("a call to an unknown word", Image(call(0x10) + RETURN + [0xFFFFFFFF]), PLAIN, "refused unknown-word 00400010"),
     ("a call past the segment", Image(call(0x10) + RETURN), PLAIN, "refused unknown-word 00400010"),
