@@ -12,6 +12,8 @@ mod instances;
 mod layout;
 mod program;
 mod scopes;
+#[cfg(test)]
+mod shape_tests;
 mod sizes;
 mod spots;
 #[cfg(test)]
