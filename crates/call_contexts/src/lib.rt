@@ -8,6 +8,8 @@ mod index;
 mod layout;
 mod program;
 mod sizes;
+#[cfg(test)]
+mod tests;
 
 pub use fault::NetFault;
 pub use program::expand;
