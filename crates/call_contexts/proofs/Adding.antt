@@ -37,9 +37,9 @@ made_apart parent calls i one rising inside is among =
     let within : k < i = omega (arith, slice_get_within (take i calls) k earlier there, length-take i calls) in
     let at : get_or calls k one ≡ earlier = sym (get_or-take i calls k one within) ∙ get_or_from_slice_get (take i calls) k earlier one there in
     differ parent earlier one
-        (subst (λ (a : Called). IsCallAfter (call_of a) (call_of one)) at
-            (subst (λ (b : Called). IsCallAfter (call_of (get_or calls k one)) (call_of b)) is (rising k i one within inside)))
-        same
+    (subst (λ (a : Called). IsCallAfter (call_of a) (call_of one)) at
+    (subst (λ (b : Called). IsCallAfter (call_of (get_or calls k one)) (call_of b)) is (rising k i one within inside)))
+    same
 
 -- One more context that a call makes.
 pub added_more : (parent : ℕ) (calls : List Called) (i : ℕ) (one : Called) (before now later : List Context) → RiseCalls calls →

@@ -81,7 +81,7 @@ pub called_by : (image : Image) (entry : ℕ) (graphs : Graphs) → AreGraphs im
 called_by image entry graphs are lists position graph called has one among =
     let (k, there) = place_of called one among in
     All-contains (IsCallOf image graph.entry) (map call_of called) (call_of one) (called_are image entry graphs are lists position graph called has).sound
-        (contains_at (map call_of called) k (call_of one) (map_at call_of called k one there))
+    (contains_at (map call_of called) k (call_of one) (map_at call_of called k one there))
 
 pub placed_by : (graphs : List Graph) (lists : List (List Called)) (position : ℕ) (graph : Graph) (called : List Called) →
     HasList graphs lists position graph called → (one : Called) → Contains called one → IsGraphAt graphs one.target one.graph
@@ -95,7 +95,7 @@ lists_rise image entry graphs are lists zip k d inside =
     let (graph, has) = graph_of graphs.graphs lists zip k called (slice_get-get_or lists k d inside) in
     let rising = (called_are image entry graphs are lists k graph called has).rising in
     pairs_by (λ (a b : Called). IsCallAfter (call_of a) (call_of b)) called (λ i j a b less one other.
-        pair_at IsCallAfter (map call_of called) rising i j (call_of a) (call_of b) less (map_at call_of called i a one) (map_at call_of called j b other))
+    pair_at IsCallAfter (map call_of called) rising i j (call_of a) (call_of b) less (map_at call_of called i a one) (map_at call_of called j b other))
 
 -- Steps go to positions of graphs.
 pub lists_within : (graphs : List Graph) (lists : List (List Called)) → AreCallLists graphs lists → length lists ≡ length graphs → IsWithin (steps_of lists)
@@ -104,7 +104,7 @@ lists_within graphs lists zip count k d inside j e there =
     let (called, at, same) = mapped_at steps_in lists k (get_or (steps_of lists) k d) listed in
     let (graph, has) = graph_of graphs lists zip k called at in
     let (one, among, is) = from-map (λ (c : Called). c.graph) called (get_or (get_or (steps_of lists) k d) j e)
-        (subst (λ (steps : List ℕ). Contains steps (get_or (get_or (steps_of lists) k d) j e)) (sym same) (Contains-get_or (get_or (steps_of lists) k d) j e there)) in
+    (subst (λ (steps : List ℕ). Contains steps (get_or (get_or (steps_of lists) k d) j e)) (sym same) (Contains-get_or (get_or (steps_of lists) k d) j e there)) in
     let placed = placed_by graphs lists k graph called has one among in
     omega (arith, is, slice_get_within graphs one.graph placed.graph placed.there, count, length-map lists steps_in)
 
@@ -127,8 +127,8 @@ step_calls image entry graphs are lists zip from to step =
     let caller = entry_there graphs.graphs graph.entry from (record { graph = graph; there = has.there; same = refl }) in
     let callee = entry_there graphs.graphs one.target one.graph (placed_by graphs.graphs lists from graph called has one among) in
     subst (λ (f : ℕ). Calls image f (entry_at graphs.graphs to)) (sym caller)
-        (subst (λ (p : ℕ). Calls image graph.entry (entry_at graphs.graphs p)) is
-            (subst (λ (f : ℕ). Calls image graph.entry f) (sym callee) (record { address = one.site; reached = call.reached; calls = call.calls })))
+    (subst (λ (p : ℕ). Calls image graph.entry (entry_at graphs.graphs p)) is
+    (subst (λ (f : ℕ). Calls image graph.entry f) (sym callee) (record { address = one.site; reached = call.reached; calls = call.calls })))
 
 -- A way of calls, one further.
 way_push : (image : Image) (way : List ℕ) (from to callee : ℕ) → IsCallWay image from way to → Calls image to callee → IsCallWay image from (way ++ callee ∷ []) callee

@@ -149,11 +149,13 @@ module _ (entry : ℕ) (lists : List (List Called)) (contexts : List Context) (f
 
   made_now : (one : Called) → Contains calls one → (number : ℕ) × IsMadeAs later_contexts done one.site one.target number
   made_now one among =
-      let (at, there) = place_of calls one among in
-      (length contexts + at, record {
-        later = omega (arith, reached);
-        there = place_right contexts (map (context_of done) calls) at (context_of done one) (map_at (context_of done) calls at one there);
-      })
+      let (at, there) = place_of calls one among in (
+        length contexts + at,
+        record {
+          later = omega (arith, reached);
+          there = place_right contexts (map (context_of done) calls) at (context_of done one) (map_at (context_of done) calls at one there);
+        },
+      )
 
   later_whole : (parent : ℕ) (given : List Called) (one : Called) → parent < done + 1 → HasCalls lists later_functions parent given →
       Contains given one → (number : ℕ) × IsMadeAs later_contexts parent one.site one.target number
@@ -170,7 +172,7 @@ module _ (entry : ℕ) (lists : List (List Called)) (contexts : List Context) (f
           let e : parent ≡ done = omega (arith, less, now) in
           let same = same_calls given (subst (λ (p : ℕ). HasCalls lists functions p given) e had) in
           subst (λ (p : ℕ). (number : ℕ) × IsMadeAs later_contexts p one.site one.target number) (sym e)
-              (made_now one (subst (λ (cs : List Called). Contains cs one) same among))
+          (made_now one (subst (λ (cs : List Called). Contains cs one) same among))
 
   -- The new contexts come behind the others, in the order of their calls.
   old_before : (i j : ℕ) (a b : Context) → 0 < i → slice_get contexts i ≡ Some a → IsNew j b → IsContextBefore a b
@@ -179,8 +181,11 @@ module _ (entry : ℕ) (lists : List (List Called)) (contexts : List Context) (f
   new_before : (i j : ℕ) (a b : Context) → i < j → IsNew i a → IsNew j b → IsContextBefore a b
   new_before i j a b less one other =
       subst (λ (x : Context). IsContextBefore x b) one.same (subst (λ (y : Context). IsContextBefore (context_of done one.one) y) other.same
-      (inr (refl, pair_at (λ (x y : Called). IsCallAfter (call_of x) (call_of y)) calls more.rising one.at other.at one.one other.one
-          (omega (arith, less, one.behind, other.behind)) one.there other.there)))
+      (inr (
+        refl,
+        pair_at (λ (x y : Called). IsCallAfter (call_of x) (call_of y)) calls more.rising one.at other.at one.one other.one
+            (omega (arith, less, one.behind, other.behind)) one.there other.there,
+      )))
 
   later_order : (i j : ℕ) (a b : Context) → 0 < i → i < j → slice_get later_contexts i ≡ Some a → slice_get later_contexts j ≡ Some b → IsContextBefore a b
   later_order i j a b some less one other = by_case (number_cases i a one) (number_cases j b other)
@@ -198,7 +203,7 @@ steps_within lists within function calls listed =
     let at = map_at steps_in lists function calls listed in
     let each = within function (steps_in calls) (slice_get_within (steps_of lists) function (steps_in calls) at) in
     let of : All (λ to. to < length (steps_of lists)) (steps_in calls) =
-      subst (λ (steps : List ℕ). All (λ to. to < length (steps_of lists)) steps) (get_or_from_slice_get (steps_of lists) function (steps_in calls) (steps_in calls) at) each in
+    subst (λ (steps : List ℕ). All (λ to. to < length (steps_of lists)) steps) (get_or_from_slice_get (steps_of lists) function (steps_in calls) (steps_in calls) at) each in
     λ k d inside. omega (arith, of k d inside, length-map lists steps_in)
 
 pub expanded_more : (entry : ℕ) (lists : List (List Called)) (contexts : List Context) (functions : List ℕ) (done function : ℕ) (calls : List Called) →
@@ -207,8 +212,14 @@ pub expanded_more : (entry : ℕ) (lists : List (List Called)) (contexts : List 
 expanded_more entry lists contexts functions done function calls within expanded is listed rising =
     let more : MakesMore entry lists contexts functions done function calls = record { expanded = expanded; is = is; listed = listed; rising = rising } in
     record {
-      sized = omega (arith, length-append functions (steps_in calls), length-append contexts (map (context_of done) calls), expanded.sized,
-          length-map calls (λ (one : Called). one.graph), length-map calls (context_of done));
+      sized = omega (
+        arith,
+        length-append functions (steps_in calls),
+        length-append contexts (map (context_of done) calls),
+        expanded.sized,
+        length-map calls (λ (one : Called). one.graph),
+        length-map calls (context_of done),
+      );
       first = place_left contexts (map (context_of done) calls) 0 (root entry) expanded.first;
       start = place_left functions (steps_in calls) 0 0 expanded.start;
       within = All-append (λ f. f < length lists) functions (steps_in calls) expanded.within (steps_within lists within function calls listed);

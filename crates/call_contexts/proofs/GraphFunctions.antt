@@ -53,8 +53,8 @@ pub graphs_apart : (image : Image) (entry : ℕ) (graphs : Graphs) → AreGraphs
     slice_get graphs.graphs i ≡ Some a → slice_get graphs.graphs j ≡ Some b → entry_of a ≡ entry_of b → ⊥
 graphs_apart image entry graphs are i j a b less one other =
     apart_parts are.first are.others are.rising
-        (λ k d inside same. are.apart k d inside (same ∙ are.begins)) i j a b less
-        (subst (λ (gs : List Graph). slice_get gs i ≡ Some a) are.parts one) (subst (λ (gs : List Graph). slice_get gs j ≡ Some b) are.parts other)
+    (λ k d inside same. are.apart k d inside (same ∙ are.begins)) i j a b less
+    (subst (λ (gs : List Graph). slice_get gs i ≡ Some a) are.parts one) (subst (λ (gs : List Graph). slice_get gs j ≡ Some b) are.parts other)
 
 -- The position of a function's graph.
 pub place_in : List Graph → (function : ℕ) → ℕ
@@ -72,7 +72,7 @@ pub place_in-is : (image : Image) (entry : ℕ) (graphs : Graphs) → AreGraphs 
 unfolding place_in
 place_in-is image entry graphs are function position at =
     position_or_len_is (λ (graph : Graph). entry_of graph == function) graphs.graphs position at.graph
-        (omega (arith, within)) before (λ inside. (Decides-eqb (entry_of (get_or graphs.graphs position at.graph)) function).1 here)
+    (omega (arith, within)) before (λ inside. (Decides-eqb (entry_of (get_or graphs.graphs position at.graph)) function).1 here)
   where
     within : position < length graphs.graphs
     within = slice_get_within graphs.graphs position at.graph at.there
@@ -83,7 +83,7 @@ place_in-is image entry graphs are function position at =
     before : (k : ℕ) → k < position → (entry_of (get_or graphs.graphs k at.graph) == function) ≡ false
     before k less = other_entry (get_or graphs.graphs k at.graph) function (λ same.
         graphs_apart image entry graphs are k position (get_or graphs.graphs k at.graph) at.graph less
-            (slice_get-get_or graphs.graphs k at.graph (omega (arith, less, within))) at.there (same ∙ sym at.same))
+        (slice_get-get_or graphs.graphs k at.graph (omega (arith, less, within))) at.there (same ∙ sym at.same))
 
 -- The first graph, as it is read.
 pub first_read : (image : Image) (entry : ℕ) (graphs : Graphs) (are : AreGraphs image entry graphs) (given : List Graph) (d : Graph) → given ≡ graphs.graphs →

@@ -60,7 +60,7 @@ totals_are : (image : Image) (entry : ℕ) (graphs : Graphs) → HasGraphs image
     AddsAlong (steps_of counted.lists.items) counted.units.items places → AreSizes image entry (contexts 0) (places 0)
 totals_are image entry graphs has counted is contexts places contexts_add places_add =
     sizes_are image entry graphs has.graphs_are counted.lists.items is.lists (lists_length graphs.graphs counted is) contexts places contexts_add
-        (subst (λ (units : List ℕ). AddsAlong (steps_of counted.lists.items) units places) is.units places_add)
+    (subst (λ (units : List ℕ). AddsAlong (steps_of counted.lists.items) units places) is.units places_add)
 
 pub too_many : (image : Image) (entry : ℕ) (graphs : Graphs) → HasGraphs image entry graphs → (counted : Counted) → IsCounted graphs.graphs counted →
     AreTooMany counted.sizes.contexts counted.sizes.places → HasTooMany image entry counted.sizes.contexts counted.sizes.places
@@ -121,7 +121,7 @@ module _ (image : Image) (entry : ℕ) (graphs : Graphs) (counted : Counted) (la
   each_graph : (number : ℕ) → number < length layout.contexts.keys → (graph : Graph) × HasGraph graphs.graphs layout number graph
   each_graph number within =
       graph_at_context number (get_or layout.functions.items number 0)
-          (slice_get-get_or layout.functions.items number 0 (omega (arith, within, plan.made.expanded.sized)))
+      (slice_get-get_or layout.functions.items number 0 (omega (arith, within, plan.made.expanded.sized)))
 
   base_is : (context base : ℕ) → slice_get layout.bases.items context ≡ Some base → context ≤ length layout.functions.items →
       base ≡ 1 + sum_by (number_of counted.units.items) (take context layout.functions.items)
@@ -143,11 +143,11 @@ module _ (image : Image) (entry : ℕ) (graphs : Graphs) (counted : Counted) (la
       let e : context + 1 ≡ suc context = omega arith in
       let at = get_or_from_slice_get layout.functions.items context has.position 0 has.listed in
       let more = sum_by_more (number_of counted.units.items) layout.functions.items context 0 within
-          ∙ ap (λ (p : ℕ). sum_by (number_of counted.units.items) (take context layout.functions.items) + number_of counted.units.items p) at in
+      ∙ ap (λ (p : ℕ). sum_by (number_of counted.units.items) (take context layout.functions.items) + number_of counted.units.items p) at in
       let value : 1 + sum_by (number_of counted.units.items) (take (context + 1) layout.functions.items) ≡ base + length graph.units =
-        omega (arith, more, base_is context base there (omega (arith, within)), units_are context graph has) in
+      omega (arith, more, base_is context base there (omega (arith, within)), units_are context graph has) in
       subst (λ (c : ℕ). slice_get layout.bases.items c ≡ Some (base + length graph.units)) e
-          (plan.made.bases.each (context + 1) (omega (arith, within)) ∙ ap (λ (n : ℕ). Some n) value)
+      (plan.made.bases.each (context + 1) (omega (arith, within)) ∙ ap (λ (n : ℕ). Some n) value)
 
   laid_out : IsLaidOut graphs.graphs layout
   laid_out = record {
@@ -171,10 +171,10 @@ module _ (image : Image) (entry : ℕ) (graphs : Graphs) (counted : Counted) (la
   sizes_is next there =
       let at = base_is (length layout.contexts.keys) next there (omega (arith, plan.made.expanded.sized)) in
       let taken = ap (λ (n : ℕ). sum_by (number_of counted.units.items) (take n layout.functions.items)) (sym plan.made.expanded.sized)
-          ∙ ap (sum_by (number_of counted.units.items)) (take-length layout.functions.items) in
+      ∙ ap (sum_by (number_of counted.units.items)) (take-length layout.functions.items) in
       let places : plan.fit.places.total 0 ≡ next - 1 = omega (arith, at, taken, all_units, plan.fit.places.same) in
       let contexts : plan.fit.ready.counted.total 0 ≡ length layout.contexts.keys =
-        omega (arith, plan.fit.ready.counted.same, plan.made.expanded.sized, plan.made.counted) in
+      omega (arith, plan.fit.ready.counted.same, plan.made.expanded.sized, plan.made.counted) in
       subst (λ (n : ℕ). AreSizes image entry (length layout.contexts.keys) n) places
-          (subst (λ (n : ℕ). AreSizes image entry n (plan.fit.places.total 0)) contexts
-              (totals_are image entry graphs plan.has counted plan.is plan.fit.ready.counted.total plan.fit.places.total plan.fit.ready.counted.adds plan.fit.places.adds))
+      (subst (λ (n : ℕ). AreSizes image entry n (plan.fit.places.total 0)) contexts
+      (totals_are image entry graphs plan.has counted plan.is plan.fit.ready.counted.total plan.fit.places.total plan.fit.ready.counted.adds plan.fit.places.adds))

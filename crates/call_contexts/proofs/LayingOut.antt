@@ -51,7 +51,7 @@ module _ (image : Image) (entry : ℕ) (graphs : Graphs) (lists : List (List Cal
       let placed = placed_by graphs.graphs lists made.has.function graph made.calls has made.one made.listed in
       let here : made.one.graph ≡ position = same_Some made.one.graph position (sym made.function ∙ at) in
       subst (λ (p : ℕ). IsGraphAt graphs.graphs context.target p) here
-          (subst (λ (f : ℕ). IsGraphAt graphs.graphs f made.one.graph) (ap (λ (c : Context). c.target) made.same) placed)
+      (subst (λ (f : ℕ). IsGraphAt graphs.graphs f made.one.graph) (ap (λ (c : Context). c.target) made.same) placed)
 
   -- Each context's position, and each position's context.
   pub context_at : (number position : ℕ) → slice_get functions number ≡ Some position → (context : Context) × (slice_get contexts number ≡ Some context)
@@ -90,10 +90,12 @@ module _ (image : Image) (entry : ℕ) (graphs : Graphs) (lists : List (List Cal
       let (position, at) = position_at parent of there in
       let graph = position_is parent position of there at in
       let (calls, has) = list_of graphs.graphs lists all.zip position graph.graph graph.there in
-      let are = called_are image entry graphs all.graphs_are lists position graph.graph calls has in
-      (calls, record { function = position; is = at; listed = has.listed },
-          from-map call_of calls (record { site = site; target = callee })
-              (are.whole (record { site = site; target = callee }) (subst (λ (f : ℕ). IsCallOf image f (record { site = site; target = callee })) (sym graph.same) call)))
+      let are = called_are image entry graphs all.graphs_are lists position graph.graph calls has in (
+        calls,
+        record { function = position; is = at; listed = has.listed },
+        from-map call_of calls (record { site = site; target = callee })
+            (are.whole (record { site = site; target = callee }) (subst (λ (f : ℕ). IsCallOf image f (record { site = site; target = callee })) (sym graph.same) call)),
+      )
 
   whole_is : (parent site callee : ℕ) → Reaches image contexts parent site → CallsAt image site callee →
       (number : ℕ) × (0 < number) × (slice_get contexts number ≡ Some (made_by parent site callee))

@@ -72,7 +72,7 @@ adds_up image entry graphs are lists zip own total sized adds of same function c
         ap (λ (given : List Call). sum_by (λ (call : Call). by_function graphs.graphs total call.target) given) (calls_once image function calls (map call_of called) listed called_all)
         ∙ sums_mapped (λ (call : Call). by_function graphs.graphs total call.target) call_of called
         ∙ sums_same (λ (one : Called). by_function graphs.graphs total one.target) (λ (one : Called). total one.graph) called
-            (λ k d inside. by_function-is image entry graphs are total (get_or called k d).target (get_or called k d).graph (placed k d inside))
+        (λ k d inside. by_function-is image entry graphs are total (get_or called k d).target (get_or called k d).graph (placed k d inside))
         ∙ sym (sums_mapped total (λ (one : Called). one.graph) called)
 
     by_list : (position : ℕ) (at : IsGraphAt graphs.graphs function position) → (called : List Called) → slice_get lists position ≡ Some called →
@@ -81,7 +81,7 @@ adds_up image entry graphs are lists zip own total sized adds of same function c
     by_list position at called there called_all placed =
         let here = by_function-is image entry graphs are total function position at in
         let along = adds position (number_of own position) (steps_in called) (map_at steps_in lists position called there)
-            (slice_get-get_or own position 0 (omega (arith, sized, slice_get_within lists position called there))) in
+        (slice_get-get_or own position 0 (omega (arith, sized, slice_get_within lists position called there))) in
         omega (arith, here, along, same function position at, targets position at called called_all placed)
 
     by_position : (position : ℕ) × IsGraphAt graphs.graphs function position →
@@ -89,7 +89,7 @@ adds_up image entry graphs are lists zip own total sized adds of same function c
     by_position (position, at) =
         let (called, has) = list_of graphs.graphs lists zip position at.graph at.there in
         by_list position at called has.listed
-            (subst (λ (f : ℕ). AreCallsOf image f (map call_of called)) at.same (called_are image entry graphs are lists position at.graph called has)) has.are.placed
+        (subst (λ (f : ℕ). AreCallsOf image f (map call_of called)) at.same (called_are image entry graphs are lists position at.graph called has)) has.are.placed
 
 -- How many units a function reaches.
 units_at : (graphs : List Graph) (function position : ℕ) (at : IsGraphAt graphs function position) → number_of (unit_counts graphs) position ≡ length at.graph.units
@@ -101,8 +101,8 @@ counts_units image entry graphs are function addresses is listed =
     let (position, at) = function_at image entry graphs are function is in
     let units = graph_units-are image at.graph.entry at.graph (graph_in image entry graphs are position at.graph at.there).is in
     let one : addresses ≡ map (λ (n : Node). n.address) at.graph.units =
-      just_once (IsReached image function) addresses (map (λ (n : Node). n.address) at.graph.units) listed
-          (subst (λ (f : ℕ). AreJust (IsReached image f) (map (λ (n : Node). n.address) at.graph.units)) at.same units) in
+    just_once (IsReached image function) addresses (map (λ (n : Node). n.address) at.graph.units) listed
+    (subst (λ (f : ℕ). AreJust (IsReached image f) (map (λ (n : Node). n.address) at.graph.units)) at.same units) in
     by_function-is image entry graphs are (number_of (unit_counts graphs.graphs)) function position at
     ∙ units_at graphs.graphs function position at
     ∙ sym (length-map at.graph.units (λ (n : Node). n.address))

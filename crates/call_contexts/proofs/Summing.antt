@@ -22,8 +22,12 @@ one_at (suc n) (suc k) less = one_at n k (omega (arith, less))
 ones_count : (n : ℕ) (functions : List ℕ) → All (λ function. function < n) functions → sum_by (number_of (replicate n 1)) functions ≡ length functions
 ones_count n [] within = refl
 ones_count n (function ∷ functions) within =
-    omega (arith, one_at n function (All-head (λ f. f < n) function functions within), sum_by-cons (number_of (replicate n 1)) function functions,
-        ones_count n functions (All-tail (λ f. f < n) function functions within))
+    omega (
+      arith,
+      one_at n function (All-head (λ f. f < n) function functions within),
+      sum_by-cons (number_of (replicate n 1)) function functions,
+      ones_count n functions (All-tail (λ f. f < n) function functions within),
+    )
 
 -- At the start the first function's number stands for all.
 pub sums_start : (lists : List (List Called)) → SumsUp lists (0 ∷ []) 0
@@ -49,7 +53,7 @@ sums_more lists functions done function calls sums is listed own total sized add
     let long : done + 1 ≤ length functions = omega (arith, within) in
     let taken = ap (sum_by (number_of own)) (take-append-le (done + 1) functions (steps_in calls) long) in
     let dropped = ap (sum_by total) (drop-append-le (done + 1) functions (steps_in calls) long)
-        ∙ sum_by-append total (drop (done + 1) functions) (steps_in calls) in
+    ∙ sum_by-append total (drop (done + 1) functions) (steps_in calls) in
     omega (arith, before, next, front, back, taken, dropped)
 
 -- While fewer have made their contexts than there are in all, one is left that has not.
@@ -78,7 +82,7 @@ none_left lists functions count total within adds sums same reached = by_case (c
         let taken = length-take-le count functions reached in
         let here : get_or functions count 0 < length lists = within count 0 there in
         let next = total_next lists (ones_for lists) total (length-replicate (length lists) 1) adds (get_or functions count 0)
-            (get_or lists (get_or functions count 0) []) (slice_get-get_or lists (get_or functions count 0) [] here) in
+        (get_or lists (get_or functions count 0) []) (slice_get-get_or lists (get_or functions count 0) [] here) in
         let back = sum_by-drop_more total functions count 0 there in
         absurd (omega (arith, all, counted, taken, next, back, same, one_at (length lists) (get_or functions count 0) here))
 

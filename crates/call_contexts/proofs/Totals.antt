@@ -29,7 +29,7 @@ step_behind : (table : List (List ℕ)) (order : List ℕ) → IsFinished table 
 step_behind table order finished place position k d at inside within =
     finished.behind place position (get_or (steps_from table position) k d) at
     (a_step table position (get_or (steps_from table position) k d) (steps_from table position) (slice_get-get_or table position [] inside)
-        (Contains-get_or (steps_from table position) k d within))
+    (Contains-get_or (steps_from table position) k d within))
 
 -- The ways from a position are no longer than its place in the order.
 tally_still : (table : List (List ℕ)) (own order : List ℕ) → IsFinished table order → (steps place position : ℕ) → slice_get order place ≡ Some position →
@@ -38,10 +38,10 @@ tally_still table own order finished zero place position at less = absurd (omega
 tally_still table own order finished (suc steps) place position at less =
     ap (λ (rest : ℕ). number_of own position + rest) (sums_same (tally table own steps) (tally table own (suc steps)) (steps_from table position)
     (λ k d within.
-        let inside : position < length table = subst (λ (p : ℕ). p < length table) (get_or_from_slice_get order place position position at)
-            (finished.within place position (slice_get_within order place position at)) in
-        let stands = step_behind table order finished place position k d at inside within in
-        tally_still table own order finished steps stands.earlier (get_or (steps_from table position) k d) stands.there (omega (arith, stands.before, less))))
+    let inside : position < length table = subst (λ (p : ℕ). p < length table) (get_or_from_slice_get order place position position at)
+    (finished.within place position (slice_get_within order place position at)) in
+    let stands = step_behind table order finished place position k d at inside within in
+    tally_still table own order finished steps stands.earlier (get_or (steps_from table position) k d) stands.there (omega (arith, stands.before, less))))
 
 pub total_of : (table : List (List ℕ)) (own order : List ℕ) → ℕ → ℕ
 total_of table own order = tally table own (length order)

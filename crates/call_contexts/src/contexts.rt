@@ -22,11 +22,7 @@ pub struct Expanded {
 }
 
 /// The calls in a context.
-fn calls_made<'a>(
-    lists: &'a [List<Called>],
-    functions: &[usize],
-    context: usize,
-) -> &'a [Called]
+fn calls_made<'a>(lists: &'a [List<Called>], functions: &[usize], context: usize) -> &'a [Called]
     requires within { All (λ function. function < length lists.now) functions.now }
     requires there { context < length functions.now }
     ensures { HasCalls lists.now functions.now context result.now }

@@ -10,6 +10,8 @@ mod fault;
 mod index;
 mod instances;
 mod layout;
+#[cfg(test)]
+mod layout_tests;
 mod program;
 mod scopes;
 #[cfg(test)]

@@ -117,11 +117,7 @@ pub struct Sizes {
 /// How many contexts and places the first graph makes, from the units of the graphs and their calls.
 ///
 /// The functions are counted one after the other, each behind those that it calls.
-pub fn sizes_told(
-    alloc: Global,
-    units: &[u64],
-    lists: &[List<Called>],
-) -> Result<Sizes, AllocError>
+pub fn sizes_told(alloc: Global, units: &[u64], lists: &[List<Called>]) -> Result<Sizes, AllocError>
     requires some { 0 < length lists.now }
     requires count { length units.now ≡ length lists.now }
     requires within { IsWithin (steps_of lists.now) }

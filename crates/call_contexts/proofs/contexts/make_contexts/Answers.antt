@@ -14,7 +14,7 @@ pub calls_made-calls-requires-clause-there : goal.calls_made-calls-requires-clau
 calls_made-calls-requires-clause-there c =
     subst (λ (functions : List ℕ). c.loop-parent.parent < length functions) (sym c.deref.ensures.value)
     (one_left c.args.lists.now c.loop-parent.functions.items c.loop-parent.parent c.requires.counted.total c.loop-parent.invariant.expanded.within
-        c.requires.counted.adds c.loop-parent.invariant.sums (omega (arith, c.requires.counted.same, c.loop-parent-test.true)))
+    c.requires.counted.adds c.loop-parent.invariant.sums (omega (arith, c.requires.counted.same, c.loop-parent-test.true)))
 
 pub add_made-requires-clause-rising : goal.add_made-requires-clause-rising
 add_made-requires-clause-rising c =
@@ -24,7 +24,7 @@ pub add_made-requires-clause-new : goal.add_made-requires-clause-new
 add_made-requires-clause-new c =
     let is = subst (λ (functions : List ℕ). slice_get functions c.loop-parent.parent ≡ Some c.calls_made-calls.ensures.function) c.deref.ensures.value c.calls_made-calls.ensures.is in
     made_new c.args.entry c.args.lists.now c.loop-parent.contexts.keys c.loop-parent.functions.items c.loop-parent.parent c.calls_made-calls.ensures.function
-        c.calls_made-calls.result.now c.loop-parent.invariant.expanded is c.calls_made-calls.ensures.listed c.requires.other
+    c.calls_made-calls.result.now c.loop-parent.invariant.expanded is c.calls_made-calls.ensures.listed c.requires.other
 
 pub loop-parent-preserved : goal.loop-parent-preserved
 loop-parent-preserved c =
@@ -33,11 +33,11 @@ loop-parent-preserved c =
     let calls = c.calls_made-calls.result.now in
     let function = c.calls_made-calls.ensures.function in
     let is : slice_get functions parent ≡ Some function =
-      subst (λ (given : List ℕ). slice_get given parent ≡ Some function) c.deref.ensures.value c.calls_made-calls.ensures.is in
+    subst (λ (given : List ℕ). slice_get given parent ≡ Some function) c.deref.ensures.value c.calls_made-calls.ensures.is in
     let listed = c.calls_made-calls.ensures.listed in
     let functions_now = c.in_ok-add_made.ensures.functions in
     let expanded = expanded_more c.args.entry c.args.lists.now c.loop-parent.contexts.keys functions parent function calls c.requires.within
-        c.loop-parent.invariant.expanded is listed (at_all RiseCalls c.args.lists.now function calls c.requires.rising listed) in
+    c.loop-parent.invariant.expanded is listed (at_all RiseCalls c.args.lists.now function calls c.requires.rising listed) in
     record {
       expanded = subst (λ (contexts : List Context). AreExpanded c.args.entry c.args.lists.now contexts c.add_made.new.functions.items (parent + 1)) (sym c.in_ok-add_made.ensures.contexts)
           (subst (λ (given : List ℕ). AreExpanded c.args.entry c.args.lists.now (c.loop-parent.contexts.keys ++ map (context_of parent) calls) given (parent + 1)) (sym functions_now) expanded);
@@ -50,5 +50,5 @@ pub returns-clause-count : goal.returns-clause-count
 returns-clause-count c =
     let ends : c.loop-parent.parent ≡ c.args.count = omega (arith, c.loop-parent-test.false, c.loop-parent.auto.parent-end) in
     none_left c.args.lists.now c.loop-parent.functions.items c.args.count c.requires.counted.total c.loop-parent.invariant.expanded.within
-        c.requires.counted.adds (subst (λ (done : ℕ). SumsUp c.args.lists.now c.loop-parent.functions.items done) ends c.loop-parent.invariant.sums)
-        c.requires.counted.same (omega (arith, ends, c.loop-parent.invariant.reached))
+    c.requires.counted.adds (subst (λ (done : ℕ). SumsUp c.args.lists.now c.loop-parent.functions.items done) ends c.loop-parent.invariant.sums)
+    c.requires.counted.same (omega (arith, ends, c.loop-parent.invariant.reached))

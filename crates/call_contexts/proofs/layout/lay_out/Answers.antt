@@ -13,10 +13,10 @@ bases_of-requires-clause-few c =
     let functions = c.in_ok-made.made.functions.items in
     let sums = subst (λ (lists : List (List Called)). SumsUp lists functions counted.sizes.contexts) c.deref.ensures.value c.in_ok-made.ensures.sums in
     let all = sums_all counted.lists.items functions counted.sizes.contexts sums c.in_ok-made.ensures.count counted.units.items
-        c.requires.places.total c.requires.sized c.requires.places.adds in
+    c.requires.places.total c.requires.sized c.requires.places.adds in
     let few : sum_by (number_of counted.units.items) functions ≤ most_places = omega (arith, all, c.requires.places.same, c.requires.few_places) in
     subst (λ (units : List ℕ). sum_by (number_of units) c.deref-3.result.now ≤ most_places) (sym c.deref-2.ensures.value)
-        (subst (λ (given : List ℕ). sum_by (number_of counted.units.items) given ≤ most_places) (sym c.deref-3.ensures.value) few)
+    (subst (λ (given : List ℕ). sum_by (number_of counted.units.items) given ≤ most_places) (sym c.deref-3.ensures.value) few)
 
 pub returns : goal.returns
 returns c =

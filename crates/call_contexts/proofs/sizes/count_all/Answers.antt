@@ -25,11 +25,11 @@ pub sizes_told-requires-clause-within : goal.sizes_told-requires-clause-within
 sizes_told-requires-clause-within c =
     let zip = c.in_ok-lists.ensures in
     subst (λ (lists : List (List Called)). IsWithin (steps_of lists)) (sym c.deref-2.ensures.value)
-        (lists_within c.args.graphs.now c.in_ok-lists.lists.items zip
-            (zip_length (λ (graph : Graph). AreCalled c.args.graphs.now (calls_in graph)) c.args.graphs.now c.in_ok-lists.lists.items zip))
+    (lists_within c.args.graphs.now c.in_ok-lists.lists.items zip
+    (zip_length (λ (graph : Graph). AreCalled c.args.graphs.now (calls_in graph)) c.args.graphs.now c.in_ok-lists.lists.items zip))
 
 pub sizes_told-requires-clause-acyclic : goal.sizes_told-requires-clause-acyclic
 sizes_told-requires-clause-acyclic c =
     let (image, entry, has) = c.requires in
     subst (λ (lists : List (List Called)). IsAcyclic (steps_of lists)) (sym c.deref-2.ensures.value)
-        (steps_acyclic image entry (record { graphs = c.args.graphs.now }) has c.in_ok-lists.lists.items c.in_ok-lists.ensures)
+    (steps_acyclic image entry (record { graphs = c.args.graphs.now }) has c.in_ok-lists.lists.items c.in_ok-lists.ensures)
