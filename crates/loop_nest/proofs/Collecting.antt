@@ -1,15 +1,25 @@
 -- The addresses of a body, and the loops of a function, are collected.
-use Rattle.std.proofs.Common.{◌≡◌, ℕ, ◌+◌, ◌<◌, Bool, List, [], ◌∷◌, ◌++◌, length, get_or, Option, Some, None, refl, sym, subst, ap, ◌∙◌, arith, inl, inr, ◌⊎◌}
+use Rattle.std.proofs.Common.{◌≡◌, ℕ, ◌+◌, ◌<◌, ◌≤◌, Bool, List, [], ◌∷◌, ◌++◌, length, get_or, take, Option, Some, None, refl, sym, subst, ap, ◌∙◌, arith, inl, inr, ◌⊎◌}
 use Rattle.std.specs.Prelude.{Contains, slice_get}
+use Rattle.std.specs.List.Sorted.{IsPermutation, IsSorted}
+use Rattle.std.specs.Ordering.{nat_cmp}
+use Rattle.std.proofs.Math.Dec.{eqb}
 use Rattle.std.proofs.lemmas.Bool.{cases_eq}
+use Rattle.std.proofs.lemmas.Bool.Decides.{Decides-eqb, eqb_tells}
 use Rattle.std.proofs.lemmas.Option.{same_Some, slice_get-get_or, slice_get_within, get_or_from_slice_get}
+use Rattle.std.proofs.lemmas.List.{take_all, take_more}
 use Rattle.std.proofs.lemmas.List.Elements.{Contains-append_left, Contains-get_or, Contains-push, Contains-push_cases}
+use Rattle.std.proofs.lemmas.List.Kept.{AllPairs-from_increasing}
 use Rattle.std.proofs.lemmas.List.Quantifiers.{all_pairs_push}
+use Rattle.std.proofs.lemmas.List.Sorted.{Contains-permutation, IsNonDecreasingBy-from_sort, IsPermutation-sym}
+use Rattle.std.proofs.lemmas.Map.Keys.{IsDistinct-IsPermutation, IsStrictlyIncreasing-from_distinct}
+use Rattle.std.proofs.lemmas.Map.Made.{IsDistinct-from_AllPairs}
 use Rattle.loop_nest.specs.Bodies.{IsBody}
 use Rattle.loop_nest.specs.Listing.{AreLoopsAt, IsHead, IsListing, IsLoopAt, IsUnboundedAt}
-use Rattle.step_table.specs.Search.{IsSeen}
+use Rattle.step_table.specs.Search.{AreApart}
 use Rattle.step_table.specs.Table.{IsMet}
 use Rattle.loop_nest.specs.declared.nest.Loop.{Loop}
+use Rattle.loop_nest.proofs.Choosing.{pair_before}
 use Rattle.step_table.proofs.Positions.{Rises}
 
 nothing_in : {X : Type 0} (x : X) → Contains [] x → ⊥
@@ -24,63 +34,91 @@ rises_at xs rising i j a b less h k =
       get_or_from_slice_get xs j b 0 k,
     )
 
-pub listing_start : (addresses : List ℕ) (inside : List Bool) (list : List ℕ) → list ≡ [] → IsListing addresses inside 0 list
-listing_start addresses inside list e = subst (IsListing addresses inside 0) (sym e) (record {
+pub listing_start : (addresses list : List ℕ) → list ≡ [] → IsListing addresses [] list
+listing_start addresses list e = subst (IsListing addresses []) (sym e) (record {
   rising = λ i j d less within. absurd (omega (arith, within));
   sound = λ a c. absurd (nothing_in a c);
-  whole = λ k a less there seen. absurd (omega (arith, less));
+  whole = λ k a there c. absurd (nothing_in k c);
 })
 
-pub listing_more : (addresses : List ℕ) (inside : List Bool) (done : ℕ) (list : List ℕ) (d : ℕ) → Rises addresses →
-    IsListing addresses inside done list → done < length addresses → IsSeen inside done →
-    IsListing addresses inside (done + 1) (list ++ get_or addresses done d ∷ [])
-listing_more addresses inside done list d rising listing within seen = record {
-  rising = all_pairs_push (λ (a b : ℕ). a < b) list one listing.rising
-      (λ k e less. let (place, before, there, was) = listing.sound (get_or list k e) (Contains-get_or list k e less) in
-      rises_at addresses rising place done (get_or list k e) one before there at_done);
-  sound = λ a c. elim (Contains-push_cases list one a c)
-      as (λ _. (k : ℕ) × (k < done + 1) × (slice_get addresses k ≡ Some a) × IsSeen inside k) [
-        | inl old ↦ let (k, less, there, was) = listing.sound a old in (k, omega (arith, less), there, was)
-        | inr e ↦ (done, omega arith, subst (λ (x : ℕ). slice_get addresses done ≡ Some x) e at_done, seen)
+-- One more of the rising positions.
+pub listing_more : (addresses positions : List ℕ) (i : ℕ) (list : List ℕ) (d : ℕ) → Rises addresses → Rises positions →
+    i < length positions → get_or positions i 0 < length addresses → IsListing addresses (take i positions) list →
+    IsListing addresses (take (i + 1) positions) (list ++ get_or addresses (get_or positions i 0) d ∷ [])
+listing_more addresses positions i list d rising rises inside within listing =
+    subst (λ (ps : List ℕ). IsListing addresses ps (list ++ one ∷ [])) (sym (take_more positions i 0 inside)) (record {
+      rising = all_pairs_push (λ (a b : ℕ). a < b) list one listing.rising
+          (λ k e less. let (place, there, among) = listing.sound (get_or list k e) (Contains-get_or list k e less) in
+          rises_at addresses rising place at (get_or list k e) one
+          (pair_before (λ (x y : ℕ). x < y) positions i rises inside place among) there at_one);
+      sound = λ a c. elim (Contains-push_cases list one a c)
+          as (λ _. (k : ℕ) × (slice_get addresses k ≡ Some a) × Contains (take i positions ++ at ∷ []) k) [
+            | inl old ↦ let (k, there, among) = listing.sound a old in
+                (k, there, Contains-append_left (take i positions) (at ∷ []) k among)
+            | inr e ↦ (at, subst (λ (x : ℕ). slice_get addresses at ≡ Some x) e at_one, Contains-push (take i positions) at)
+          ];
+      whole = λ k a there c. elim (Contains-push_cases (take i positions) at k c) as (λ _. Contains (list ++ one ∷ []) a) [
+        | inl old ↦ Contains-append_left list (one ∷ []) a (listing.whole k a there old)
+        | inr e ↦ subst (Contains (list ++ one ∷ []))
+            (same_Some one a (sym at_one ∙ subst (λ (x : ℕ). slice_get addresses x ≡ Some a) (sym e) there))
+            (Contains-push list one)
       ];
-  whole = λ k a less there was. elim (cases_eq k done) as (λ _. Contains (list ++ one ∷ []) a) [
-    | inl e ↦ subst (Contains (list ++ one ∷ []))
-        (same_Some one a (sym at_done ∙ subst (λ (x : ℕ). slice_get addresses x ≡ Some a) e there))
-        (Contains-push list one)
-    | inr differ ↦ Contains-append_left list (one ∷ []) a (listing.whole k a (omega (arith, less, differ)) there was)
-  ];
-}
+    })
   where
+    at : ℕ
+    at = get_or positions i 0
+
     one : ℕ
-    one = get_or addresses done d
+    one = get_or addresses at d
 
-    at_done : slice_get addresses done ≡ Some one
-    at_done = slice_get-get_or addresses done d within
+    at_one : slice_get addresses at ≡ Some one
+    at_one = slice_get-get_or addresses at d within
 
-pub listing_same : (addresses : List ℕ) (inside : List Bool) (done : ℕ) (list : List ℕ) →
-    IsListing addresses inside done list → (IsSeen inside done → ⊥) → IsListing addresses inside (done + 1) list
-listing_same addresses inside done list listing unseen = record {
+pub listing_end : (addresses positions : List ℕ) (i : ℕ) (list : List ℕ) → length positions ≤ i →
+    IsListing addresses (take i positions) list → IsListing addresses positions list
+listing_end addresses positions i list end listing =
+    subst (λ (ps : List ℕ). IsListing addresses ps list) (take_all i positions end) listing
+
+-- The positions may stand in another order.
+pub listing_moved : (addresses positions sorted list : List ℕ) → IsPermutation positions sorted →
+    IsListing addresses sorted list → IsListing addresses positions list
+listing_moved addresses positions sorted list moved listing = record {
   rising = listing.rising;
-  sound = λ a c. let (k, less, there, was) = listing.sound a c in (k, omega (arith, less), there, was);
-  whole = λ k a less there was. elim (cases_eq k done) as (λ _. Contains list a) [
-    | inl e ↦ absurd (unseen (subst (IsSeen inside) e was))
-    | inr differ ↦ listing.whole k a (omega (arith, less, differ)) there was
-  ];
+  sound = λ a c. let (k, there, among) = listing.sound a c in
+      (k, there, Contains-permutation sorted positions k (IsPermutation-sym positions sorted moved) among);
+  whole = λ k a there c. listing.whole k a there (Contains-permutation positions sorted k moved c);
 }
+
+-- Positions that differ rise once they are sorted.
+pub rises_sorted : (positions sorted : List ℕ) → AreApart positions → IsPermutation positions sorted →
+    IsSorted nat_cmp sorted → Rises sorted
+rises_sorted positions sorted apart moved in_order =
+    AllPairs-from_increasing sorted
+    (IsStrictlyIncreasing-from_distinct sorted (IsNonDecreasingBy-from_sort (λ (x : ℕ). x) sorted in_order)
+    (IsDistinct-IsPermutation eqb flips positions sorted moved (IsDistinct-from_AllPairs Decides-eqb positions apart)))
+  where
+    flips : (x y : ℕ) → eqb x y ≡ eqb y x
+    flips x y = elim (eqb_tells x y) as (λ _. eqb x y ≡ eqb y x) [
+      | inl same ↦ same.0 ∙ sym ((Decides-eqb y x).1 (sym same.1))
+      | inr differ ↦ elim (eqb_tells y x) as (λ _. eqb x y ≡ eqb y x) [
+        | inl same ↦ absurd (differ.1 (sym same.1))
+        | inr again ↦ differ.0 ∙ sym again.0
+      ]
+    ]
 
 -- The loop of a header.
 pub loop_by : (addresses : List ℕ) (reverse sources : List (List ℕ)) (bounds : List (Option ℕ)) (header : ℕ) (from : List ℕ)
-    (inside : List Bool) (one : Loop) → length addresses ≡ length reverse → header < length addresses →
-    get_or addresses header one.header ≡ one.header → 0 < length from → IsBody reverse from header inside →
-    IsListing addresses inside (length addresses) one.body → slice_get sources header ≡ Some from →
+    (positions : List ℕ) (one : Loop) → length addresses ≡ length reverse → header < length addresses →
+    get_or addresses header one.header ≡ one.header → 0 < length from → IsBody reverse from header positions →
+    IsListing addresses positions one.body → slice_get sources header ≡ Some from →
     slice_get bounds header ≡ Some (Some one.bound) → IsLoopAt addresses reverse sources bounds header one
-loop_by addresses reverse sources bounds header from inside one count within same some body listing there bounded = record {
+loop_by addresses reverse sources bounds header from positions one count within same some body listing there bounded = record {
   address = slice_get-get_or addresses header one.header within ∙ ap (λ (a : ℕ). Some a) same;
   head = record { from = from; there = there; one = get_or from 0 0; some = first };
   rising = listing.rising;
-  sound = λ a c. let (k, less, at, was) = listing.sound a c in
-      (k, at, record { from = from; there = there; one = get_or from 0 0; some = first; held = body.sound k was });
-  whole = λ k a at holds. listing.whole k a (slice_get_within addresses k a at) at (seen k
+  sound = λ a c. let (k, at, among) = listing.sound a c in
+      (k, at, record { from = from; there = there; one = get_or from 0 0; some = first; held = body.sound k among });
+  whole = λ k a at holds. listing.whole k a at (listed k
       (subst (λ (xs : List ℕ). (k ≡ header) ⊎ IsMet reverse xs header k) (same_Some holds.from from (sym holds.there ∙ there)) holds.held));
   bounded = bounded;
 }
@@ -88,9 +126,9 @@ loop_by addresses reverse sources bounds header from inside one count within sam
     first : Contains from (get_or from 0 0)
     first = Contains-get_or from 0 0 some
 
-    seen : (k : ℕ) → (k ≡ header) ⊎ IsMet reverse from header k → IsSeen inside k
-    seen k (inl e) = subst (IsSeen inside) (sym e) body.head
-    seen k (inr met) = body.whole k met
+    listed : (k : ℕ) → (k ≡ header) ⊎ IsMet reverse from header k → Contains positions k
+    listed k (inl e) = subst (Contains positions) (sym e) body.head
+    listed k (inr met) = body.whole k met
 
 pub loops_start : (addresses : List ℕ) (reverse sources : List (List ℕ)) (bounds : List (Option ℕ)) (loops : List Loop) →
     loops ≡ [] → AreLoopsAt addresses reverse sources bounds 0 loops

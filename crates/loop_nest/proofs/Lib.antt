@@ -11,6 +11,7 @@ pub mod Arcs
 -- The functions' own lemmas.
 mod Bounding
 mod Bridge
+mod Choosing
 mod Cycling
 mod Finding
 mod Holding
@@ -21,5 +22,6 @@ mod Planning
 mod Ranking
 mod Regular
 mod Removing
+mod Retreating
 mod Returning
 mod Walking

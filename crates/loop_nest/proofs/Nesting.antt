@@ -125,15 +125,14 @@ first_unbounded image entry graph addresses table reverse sources ranks start in
 -- The same by the plan of a graph.
 known_by : (image : Image) (entry : ℕ) (graph : Graph) (plan : Plan) (marks : List Mark) → IsGraph image entry graph → IsPlan graph plan →
     marks ≡ image.marks → (loops : List Loop) → (found : AreRegular graph plan marks (Loops loops)) →
-    IsKnown image entry graph plan.addresses.items plan.table.items plan.reverse.items found.backs.sources.items found.ranks
+    IsKnown image entry graph plan.addresses.items plan.table.items plan.reverse.items found.sources found.ranks
     plan.entry found.innermost found.bounds
 known_by image entry graph plan marks graphed is e loops found = record {
   regular = record {
     laid = laid_of image entry graph plan graphed is;
     ranked = found.ranked;
     are = record { sound = found.are.sound; whole = found.are.whole };
-    kept = λ from header step retreats. OnTrue_at found.clean found.are.kept from header
-        (step_within plan.table.items is.within from header step) step retreats;
+    kept = found.kept;
     reversed = is.reversed;
   };
   inner = found.inner;
@@ -144,7 +143,7 @@ known_by image entry graph plan marks graphed is e loops found = record {
 pub nest_by : (image : Image) (entry : ℕ) (graph : Graph) (plan : Plan) (marks : List Mark) → IsGraph image entry graph → IsPlan graph plan →
     marks ≡ image.marks → (loops : List Loop) → AreRegular graph plan marks (Loops loops) → IsNest image entry loops
 nest_by image entry graph plan marks graphed is e loops found =
-    nest_is image entry graph plan.addresses.items plan.table.items plan.reverse.items found.backs.sources.items found.ranks
+    nest_is image entry graph plan.addresses.items plan.table.items plan.reverse.items found.sources found.ranks
     plan.entry found.innermost found.bounds (known_by image entry graph plan marks graphed is e loops found) loops found.listed
 
 pub unbounded_within : (graph : Graph) (plan : Plan) (marks : List Mark) → IsPlan graph plan → (header : ℕ) →
@@ -154,22 +153,21 @@ unbounded_within graph plan marks is header found =
       arith,
       is.count,
       found.are.count,
-      slice_get_within found.backs.sources.items header found.listed.head.from found.listed.head.there,
+      slice_get_within found.sources header found.listed.head.from found.listed.head.there,
     )
 
 pub unbounded_by : (image : Image) (entry : ℕ) (graph : Graph) (plan : Plan) (marks : List Mark) → IsGraph image entry graph → IsPlan graph plan →
     marks ≡ image.marks → (header address : ℕ) → AreRegular graph plan marks (Unbounded header) →
     address ≡ get_or plan.addresses.items header address → IsFirstUnbounded image entry address
 unbounded_by image entry graph plan marks graphed is e header address found same =
-    first_unbounded image entry graph plan.addresses.items plan.table.items plan.reverse.items found.backs.sources.items found.ranks
+    first_unbounded image entry graph plan.addresses.items plan.table.items plan.reverse.items found.sources found.ranks
     plan.entry found.innermost found.bounds
     (record {
       regular = record {
         laid = laid_of image entry graph plan graphed is;
         ranked = found.ranked;
         are = record { sound = found.are.sound; whole = found.are.whole };
-        kept = λ from header step retreats. OnTrue_at found.clean found.are.kept from header
-            (step_within plan.table.items is.within from header step) step retreats;
+        kept = found.kept;
         reversed = is.reversed;
       };
       inner = found.inner;
@@ -186,7 +184,7 @@ pub irregular_by : (image : Image) (entry : ℕ) (graph : Graph) (plan : Plan) �
     IsFirstIrreducible image entry address
 irregular_by image entry graph plan graphed is position address found same =
     let first = found.first in
-    first_irreducible image entry graph plan.addresses.items plan.table.items found.backs.sources.items plan.entry
+    first_irreducible image entry graph plan.addresses.items plan.table.items found.sources plan.entry
     (laid_of image entry graph plan graphed is) (record { sound = found.are.sound; whole = found.are.whole }) position address
     (slice_get-get_or plan.addresses.items position address
     (omega (arith, is.count, first.is.count, slice_get_within first.forward position first.first.0.steps first.first.0.there))

@@ -10,11 +10,10 @@ use Rattle.unit_graph.specs.declared.graph.Graph.{Graph}
 use Rattle.unit_graph.specs.declared.node.Unit.{Unit as Node}
 use Rattle.unit_graph.specs.Graphs.{IsGraph}
 use Rattle.loop_nest.specs.declared.plan.Plan.{Plan}
-use Rattle.loop_nest.specs.declared.removal.Backs.{Backs}
 use Rattle.loop_nest.specs.Arcs.{AreBacks}
 use Rattle.step_table.specs.Cycles.{IsCyclic}
 use Rattle.loop_nest.specs.Cycles.{IsFirstIrregular}
-use Rattle.loop_nest.specs.Plans.{IsPlan}
+use Rattle.loop_nest.specs.Plans.{IsCrossed, IsPlan}
 use Rattle.loop_nest.specs.Ranks.{AreRanks}
 use Rattle.step_table.specs.Table.{IsReverse, IsWithin}
 use Rattle.loop_nest.specs.Table.{IsTableOf}
@@ -101,10 +100,10 @@ laid_of image entry graph plan graphed is = record {
 }
 
 -- Where some step crosses, there is a cycle without back arcs.
-pub no_escape : (table : List (List ℕ)) (entry : ℕ) (ranks : List ℕ) (backs : Backs) → IsWithin table → AreRanks table entry ranks →
-    AreBacks table entry ranks backs → backs.clean ≡ false → IsFirstIrregular table backs.sources.items None → ⊥
-no_escape table entry ranks backs within ranked are crossed none =
-    let (from, header, crosses) = OnFalse_at crossed are.crossed in
-    let cyclic : IsCyclic none.forward from =
-    crossed_cyclic table backs.sources.items none.forward entry ranks from header within ranked none.is are.sound crosses in
-    none.first from (slice_get_within none.forward from cyclic.steps cyclic.there) cyclic
+pub no_escape : (plan : Plan) (steps sources : List (List ℕ)) → IsCrossed plan steps →
+    AreBacks plan.table.items plan.entry sources → IsFirstIrregular plan.table.items sources None → ⊥
+no_escape plan steps sources crossed are none =
+    let cyclic : IsCyclic none.forward crossed.from =
+    crossed_cyclic plan.table.items sources none.forward plan.entry crossed.ranks crossed.from crossed.header
+    crossed.within crossed.ranked none.is are.sound crossed.crosses in
+    none.first crossed.from (slice_get_within none.forward crossed.from cyclic.steps cyclic.there) cyclic

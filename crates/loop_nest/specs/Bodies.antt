@@ -1,15 +1,17 @@
 -- The bodies of headers, and which of the headers is the innermost one, by the positions.
-use Rattle.std.specs.Prelude.{◌≡◌, ℕ, ◌<◌, ◌≤◌, ◌⊎◌, List, length, Contains, Option, Some, None, Bool, slice_get}
+use Rattle.std.specs.Prelude.{◌≡◌, ℕ, ◌<◌, ◌≤◌, ◌⊎◌, List, All, length, Contains, Option, Some, None, slice_get}
 use Rattle.step_table.specs.Numbers.{number_of}
-use Rattle.step_table.specs.Search.{IsSeen}
+use Rattle.step_table.specs.Search.{AreApart}
 use Rattle.step_table.specs.Table.{IsMet}
 
--- The body of a header: itself, and what is met from the sources of its back arcs backwards, without it.
-pub record IsBody (reverse : List (List ℕ)) (sources : List ℕ) (header : ℕ) (inside : List Bool) : Type 0 where
-  pub count : length inside ≡ length reverse
-  pub sound : (x : ℕ) → IsSeen inside x → (x ≡ header) ⊎ IsMet reverse sources header x
-  pub head : IsSeen inside header
-  pub whole : (x : ℕ) → IsMet reverse sources header x → IsSeen inside x
+-- The body of a header, each position once: itself, and what is met from the sources of its back arcs
+-- backwards, without it.
+pub record IsBody (reverse : List (List ℕ)) (sources : List ℕ) (header : ℕ) (body : List ℕ) : Type 0 where
+  pub apart : AreApart body
+  pub within : All (λ (x : ℕ). x < length reverse) body
+  pub sound : (x : ℕ) → Contains body x → (x ≡ header) ⊎ IsMet reverse sources header x
+  pub head : Contains body header
+  pub whole : (x : ℕ) → IsMet reverse sources header x → Contains body x
 
 -- A header, with some back arc, holds a position.
 pub record Holds (reverse sources : List (List ℕ)) (header position : ℕ) : Type 0 where
@@ -41,21 +43,15 @@ IsLesser ranks header (Some other) found =
     ⊎ ((found ≡ Some header) × (number_of ranks header ≤ number_of ranks other))
 
 -- What stands at a position once one more header has noted itself at those of its body.
-pub record IsNoted (inside : List Bool) (ranks : List ℕ) (header position : ℕ) (before found : Option ℕ) : Type 0 where
-  pub held : IsSeen inside position → IsLesser ranks header before found
-  pub other : (IsSeen inside position → ⊥) → before ≡ found
+abbrev pub IsNoted : (body : List ℕ) → (ranks : List ℕ) → (header position : ℕ) → (before found : Option ℕ) → Type 0
+IsNoted body ranks header position before found =
+    (Contains body position × IsLesser ranks header before found)
+    ⊎ ((Contains body position → ⊥) × (before ≡ found))
 
-pub record AreNoted (inside : List Bool) (ranks : List ℕ) (header : ℕ) (before later : List (Option ℕ)) : Type 0 where
+pub record AreNoted (body : List ℕ) (ranks : List ℕ) (header : ℕ) (before later : List (Option ℕ)) : Type 0 where
   pub count : length later ≡ length before
   pub each : (position : ℕ) (found : Option ℕ) → slice_get later position ≡ Some found →
-      (old : Option ℕ) × (slice_get before position ≡ Some old) × IsNoted inside ranks header position old found
-
--- Each position up to one was noted, and the others stay.
-pub record IsNoting (inside : List Bool) (ranks : List ℕ) (header done : ℕ) (before later : List (Option ℕ)) : Type 0 where
-  pub count : length later ≡ length before
-  pub each : (position : ℕ) (found : Option ℕ) → position < done → slice_get later position ≡ Some found →
-      (old : Option ℕ) × (slice_get before position ≡ Some old) × IsNoted inside ranks header position old found
-  pub kept : (position : ℕ) → done ≤ position → slice_get later position ≡ slice_get before position
+      (old : Option ℕ) × (slice_get before position ≡ Some old) × IsNoted body ranks header position old found
 
 -- Each header that is named is a position.
 abbrev pub AreBelow : ℕ → List (Option ℕ) → Type 0

@@ -1,17 +1,15 @@
 -- The loops of a function in a list, by the positions.
-use Rattle.std.specs.Prelude.{◌≡◌, ℕ, ◌<◌, List, length, Contains, AllPairs, Option, Some, None, Bool, slice_get}
+use Rattle.std.specs.Prelude.{◌≡◌, ℕ, ◌<◌, List, length, Contains, AllPairs, Option, Some, None, slice_get}
 use Rattle.loop_nest.specs.declared.nest.Loop.{Loop}
 use Rattle.loop_nest.specs.declared.listing.Listed.{Listed}
 use Rattle.loop_nest.specs.declared.listing.Listed.TheVariants.{Loops, Unbounded}
 use Rattle.loop_nest.specs.Bodies.{Holds}
-use Rattle.step_table.specs.Search.{IsSeen}
 
--- The addresses at the first positions that were seen, rising.
-pub record IsListing (addresses : List ℕ) (inside : List Bool) (done : ℕ) (list : List ℕ) : Type 0 where
+-- The addresses at these positions, rising.
+pub record IsListing (addresses positions list : List ℕ) : Type 0 where
   pub rising : AllPairs (λ (a b : ℕ). a < b) list
-  pub sound : (a : ℕ) → Contains list a →
-      (k : ℕ) × (k < done) × (slice_get addresses k ≡ Some a) × IsSeen inside k
-  pub whole : (k a : ℕ) → k < done → slice_get addresses k ≡ Some a → IsSeen inside k → Contains list a
+  pub sound : (a : ℕ) → Contains list a → (k : ℕ) × (slice_get addresses k ≡ Some a) × Contains positions k
+  pub whole : (k a : ℕ) → slice_get addresses k ≡ Some a → Contains positions k → Contains list a
 
 -- A position is a header: it has some back arc.
 pub record IsHead (sources : List (List ℕ)) (header : ℕ) : Type 0 where

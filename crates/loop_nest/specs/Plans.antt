@@ -1,5 +1,5 @@
 -- A function's units by their positions, and what is found of its loops.
-use Rattle.std.specs.Prelude.{◌≡◌, ℕ, ◌<◌, List, length, map, AllPairs, Option, Some, true, slice_get}
+use Rattle.std.specs.Prelude.{◌≡◌, ℕ, ◌<◌, List, length, map, AllPairs, Option, Some, slice_get}
 use Rattle.elf_mips.specs.declared.image.Image.{Image}
 use Rattle.elf_mips.specs.declared.mark.Mark.{Mark}
 use Rattle.unit_graph.specs.declared.graph.Graph.{Graph}
@@ -10,8 +10,7 @@ use Rattle.loop_nest.specs.declared.listing.Listed.{Listed as List_of_loops}
 use Rattle.loop_nest.specs.declared.plan.Found.{Found}
 use Rattle.loop_nest.specs.declared.plan.Found.TheVariants.{Irregular, Regular}
 use Rattle.loop_nest.specs.declared.plan.Plan.{Plan}
-use Rattle.loop_nest.specs.declared.removal.Backs.{Backs}
-use Rattle.loop_nest.specs.Arcs.{AreBacks}
+use Rattle.loop_nest.specs.Arcs.{AreBacks, AreKept, Crosses, HaveBacks}
 use Rattle.loop_nest.specs.Bodies.{AreInner}
 use Rattle.loop_nest.specs.Bounds.{AreBounds}
 use Rattle.loop_nest.specs.Cycles.{IsFirstIrregular}
@@ -33,26 +32,36 @@ pub record IsPlan (graph : Graph) (plan : Plan) : Type 0 where
   pub begins : slice_get plan.addresses.items plan.entry ≡ Some graph.entry
   pub met : AreMet plan.table.items plan.entry
 
+-- All back arcs are among these steps, which are listed by their headers, and some step crosses.
+pub record IsCrossed (plan : Plan) (steps : List (List ℕ)) : Type 0 where
+  pub ranks : List ℕ
+  pub within : IsWithin plan.table.items
+  pub begins : plan.entry < length plan.table.items
+  pub ranked : AreRanks plan.table.items plan.entry ranks
+  pub listed : IsWithin steps
+  pub backs : HaveBacks plan.table.items plan.entry steps
+  pub from : ℕ
+  pub header : ℕ
+  pub crosses : Crosses plan.table.items plan.entry ranks from header
+
 -- Some step that isn't a back arc closes a cycle: the least position of such.
 pub record IsIrregularAt (plan : Plan) (position : ℕ) : Type 0 where
-  pub ranks : List ℕ
-  pub backs : Backs
-  pub ranked : AreRanks plan.table.items plan.entry ranks
-  pub are : AreBacks plan.table.items plan.entry ranks backs
-  pub first : IsFirstIrregular plan.table.items backs.sources.items (Some position)
+  pub sources : List (List ℕ)
+  pub are : AreBacks plan.table.items plan.entry sources
+  pub first : IsFirstIrregular plan.table.items sources (Some position)
 
 -- All steps but the back arcs go to lesser ranks, and the loops are listed.
 pub record AreRegular (graph : Graph) (plan : Plan) (marks : List Mark) (loops : List_of_loops) : Type 0 where
   pub ranks : List ℕ
-  pub backs : Backs
+  pub sources : List (List ℕ)
   pub innermost : List (Option ℕ)
   pub bounds : List (Option ℕ)
   pub ranked : AreRanks plan.table.items plan.entry ranks
-  pub are : AreBacks plan.table.items plan.entry ranks backs
-  pub clean : backs.clean ≡ true
-  pub inner : AreInner plan.reverse.items backs.sources.items ranks (length plan.reverse.items) innermost
+  pub are : AreBacks plan.table.items plan.entry sources
+  pub kept : AreKept plan.table.items plan.entry ranks
+  pub inner : AreInner plan.reverse.items sources ranks (length plan.reverse.items) innermost
   pub bounded : AreBounds graph.units innermost marks bounds
-  pub listed : IsListed plan.addresses.items plan.reverse.items backs.sources.items bounds loops
+  pub listed : IsListed plan.addresses.items plan.reverse.items sources bounds loops
 
 abbrev pub IsFound : Graph → Plan → (marks : List Mark) → Found → Type 0
 IsFound graph plan marks (Irregular position) = IsIrregularAt plan position

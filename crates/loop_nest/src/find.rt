@@ -84,9 +84,10 @@ fn nests_in(
 /// The loops of each function, with the bounds that the image's records give, in the order of the graphs.
 ///
 /// `Bad` is the least unit of some function on a cycle that isn't entered at one header alone, or else the
-/// least header of a loop without a bound. It takes time in proportion to the headers times the arcs of a
-/// function at most, and to its units times its arcs where it has a cycle that isn't entered at one header
-/// alone.
+/// least header of a loop without a bound. The time is in proportion to a function's units and arcs and to
+/// the bodies of its loops, thus to its units times the depth of its loops, but for sorting and for looking
+/// up addresses. Only where a function has a cycle that isn't entered at one header alone, it is in
+/// proportion to its units times its arcs at most.
 pub fn find_loops(alloc: Global, graphs: &Graphs, image: &Image) -> Result<Nests, CodeFault>
     requires graphs { (entry : ℕ) × AreGraphs image.now entry graphs.now × HasNoFault image.now entry }
     ensures nests { IfOk result (AreNests image.now graphs.now) }

@@ -10,6 +10,7 @@ mod nest;
 mod plan;
 mod ranks;
 mod removal;
+mod retreats;
 mod table;
 #[cfg(test)]
 mod tests;

@@ -1,6 +1,8 @@
 //! The list of a function's loops.
 
-ghost use Rattle.std.specs.Prelude.{◌≡◌, ℕ, ◌<◌, All, AllPairs, List, length, IfOk, Contains, Some, slice_get, Option};
+ghost use Rattle.std.specs.Prelude.{◌≡◌, ℕ, ◌<◌, All, AllPairs, List, length, IfOk, OnOk, Some, slice_get, Option};
+ghost use Rattle.step_table.specs.Listing.{AreUnmarked};
+ghost use Rattle.step_table.specs.Search.{AreApart};
 ghost use Rattle.step_table.specs.Table.{IsWithin};
 
 use crate::bodies::body_of;
@@ -20,23 +22,40 @@ pub enum Listed {
 
 ghost use Rattle.loop_nest.specs.Listing.{IsHead, IsListed, IsListing, IsLoopAt};
 
-/// The addresses at the positions that were seen.
-fn addresses_in(alloc: Global, addresses: &[u32], inside: &[bool]) -> Result<List<u32>, AllocError>
+/// The addresses at rising positions.
+fn addresses_at(
+    alloc: Global,
+    addresses: &[u32],
+    positions: &[usize],
+) -> Result<List<u32>, AllocError>
     requires rising { AllPairs (λ a b. a < b) addresses.now }
-    requires count { length inside.now ≡ length addresses.now }
-    ensures { IfOk result (IsListing addresses.now inside.now (length addresses.now)) }
+    requires positions { AllPairs (λ a b. a < b) positions.now }
+    requires within { All (λ position. position < length addresses.now) positions.now }
+    ensures { IfOk result (IsListing addresses.now positions.now) }
 {
     let mut list = List::new(alloc);
-    for position in 0..addresses.len() {
-        if !inside[position] {
-            continue;
-        }
-        list.push(addresses[position])?;
+    for position in positions {
+        list.push(addresses[*position])?;
     }
     Ok(list)
 }
 
-/// The loop of a header, whose back arcs come from these positions.
+/// The addresses at these positions, rising.
+fn addresses_in(
+    alloc: Global,
+    addresses: &[u32],
+    mut positions: Vec<usize>,
+) -> Result<List<u32>, AllocError>
+    requires rising { AllPairs (λ a b. a < b) addresses.now }
+    requires apart { AreApart positions.items }
+    requires within { All (λ position. position < length addresses.now) positions.items }
+    ensures { IfOk result (IsListing addresses.now positions.items) }
+{
+    positions.sort_unstable();
+    addresses_at(alloc, addresses, &positions)
+}
+
+/// The loop of a header, whose back arcs come from these positions; no position is marked.
 fn loop_of(
     alloc: Global,
     addresses: &[u32],
@@ -44,6 +63,7 @@ fn loop_of(
     from: &[usize],
     header: usize,
     bound: u32,
+    marks: &mut [bool],
 ) -> Result<Loop, AllocError>
     requires rising { AllPairs (λ a b. a < b) addresses.now }
     requires count { length addresses.now ≡ length reverse.now }
@@ -51,12 +71,14 @@ fn loop_of(
     requires from { All (λ source. source < length reverse.now) from.now }
     requires some { 0 < length from.now }
     requires header { header < length reverse.now }
-    ensures { IfOk result (λ one. (sources : List (List ℕ)) (bounds : List (Option ℕ)) →
+    requires unmarked { AreUnmarked (length reverse.now) marks.old }
+    ensures is { IfOk result (λ one. (sources : List (List ℕ)) (bounds : List (Option ℕ)) →
         slice_get sources header ≡ Some from.now → slice_get bounds header ≡ Some (Some bound) →
         IsLoopAt addresses.now reverse.now sources bounds header one) }
+    ensures unmarked { OnOk result (AreUnmarked (length reverse.now) marks.new) }
 {
-    let inside = body_of(alloc, reverse, from, header)?;
-    let body = addresses_in(alloc, addresses, &inside)?;
+    let positions = body_of(alloc, reverse, from, header, marks)?;
+    let body = addresses_in(alloc, addresses, positions)?;
     Ok(Loop {
         header: addresses[header],
         body,
@@ -64,9 +86,41 @@ fn loop_of(
     })
 }
 
+/// Lists the loops by rising headers up to the first one without a bound; no position is marked yet.
+fn list_each(
+    alloc: Global,
+    addresses: &[u32],
+    reverse: &[List<usize>],
+    sources: &[List<usize>],
+    bounds: &[Option<u32>],
+    marks: &mut [bool],
+) -> Result<Listed, AllocError>
+    requires rising { AllPairs (λ a b. a < b) addresses.now }
+    requires count { length addresses.now ≡ length reverse.now }
+    requires within { IsWithin reverse.now }
+    requires sources { IsWithin sources.now }
+    requires headers { length sources.now ≡ length reverse.now }
+    requires bounds { length bounds.now ≡ length reverse.now }
+    requires unmarked { AreUnmarked (length reverse.now) marks.old }
+    ensures { IfOk result (IsListed addresses.now reverse.now sources.now bounds.now) }
+{
+    let mut loops = List::new(alloc);
+    for header in 0..sources.len() {
+        let from = steps_at(sources, header);
+        if from.is_empty() {
+            continue;
+        }
+        let Some(bound) = bounds[header] else {
+            return Ok(Listed::Unbounded(header));
+        };
+        loops.push(loop_of(alloc, addresses, reverse, from, header, bound, marks)?)?;
+    }
+    Ok(Listed::Loops(loops))
+}
+
 /// The loops of a function by rising headers, or the first header without a bound.
 ///
-/// It takes one search for each header.
+/// The time is in proportion to the bodies, but that each is sorted.
 pub fn list_loops(
     alloc: Global,
     addresses: &[u32],
@@ -82,16 +136,6 @@ pub fn list_loops(
     requires bounds { length bounds.now ≡ length reverse.now }
     ensures { IfOk result (IsListed addresses.now reverse.now sources.now bounds.now) }
 {
-    let mut loops = List::new(alloc);
-    for header in 0..sources.len() {
-        let from = steps_at(sources, header);
-        if from.is_empty() {
-            continue;
-        }
-        let Some(bound) = bounds[header] else {
-            return Ok(Listed::Unbounded(header));
-        };
-        loops.push(loop_of(alloc, addresses, reverse, from, header, bound)?)?;
-    }
-    Ok(Listed::Loops(loops))
+    let mut marks = vec![in alloc; false; reverse.len()]?;
+    list_each(alloc, addresses, reverse, sources, bounds, &mut marks)
 }

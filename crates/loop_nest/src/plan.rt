@@ -9,7 +9,8 @@ use crate::bounds::bounds_of;
 use crate::irreducible::first_irregular;
 use crate::listing::{Listed, list_loops};
 use crate::ranks::ranks_of;
-use crate::removal::{Backs, backs_of};
+use crate::removal::backs_of;
+use crate::retreats::{are_backs, retreats_of};
 use crate::table::{addresses_of, table_of};
 use elf_mips::Mark;
 use std::alloc::{AllocError, Global};
@@ -39,8 +40,8 @@ pub enum Found {
     Regular(Listed),
 }
 
-ghost use Rattle.loop_nest.specs.Arcs.{AreBacks};
-ghost use Rattle.loop_nest.specs.Plans.{AreRegular, IsFound, IsPlan};
+ghost use Rattle.loop_nest.specs.Arcs.{AreBacks, AreKept};
+ghost use Rattle.loop_nest.specs.Plans.{AreRegular, IsCrossed, IsFound, IsIrregularAt, IsPlan};
 ghost use Rattle.loop_nest.specs.Ranks.{AreRanks};
 ghost use Rattle.step_table.specs.Table.{IsWithin};
 
@@ -64,33 +65,39 @@ pub fn plan_of(alloc: Global, graph: &Graph) -> Result<Plan, AllocError>
     })
 }
 
-/// The loops of a graph whose back arcs are known.
+/// The loops of a graph, whose back arcs come from these sources and are all steps that don't fall in rank.
 fn regular_loops(
     alloc: Global,
     graph: &Graph,
     plan: &Plan,
     ranks: &[usize],
-    backs: &Backs,
+    sources: &[List<usize>],
     marks: &[Mark],
 ) -> Result<Listed, AllocError>
     requires plan { IsPlan graph.now plan.now }
     requires ranks { AreRanks plan.now.table.items plan.now.entry ranks.now }
-    requires backs { AreBacks plan.now.table.items plan.now.entry ranks.now backs.now }
-    requires clean { backs.now.clean ≡ true }
-    requires sources { IsWithin backs.now.sources.items }
+    requires backs { AreBacks plan.now.table.items plan.now.entry sources.now }
+    requires kept { AreKept plan.now.table.items plan.now.entry ranks.now }
+    requires sources { IsWithin sources.now }
     ensures { IfOk result (AreRegular graph.now plan.now marks.now) }
 {
     let units = graph.units.as_slice();
-    let innermost = innermost_of(alloc, &plan.reverse, &backs.sources, ranks)?;
+    let innermost = innermost_of(alloc, &plan.reverse, sources, ranks)?;
     let bounds = bounds_of(alloc, units, &plan.addresses, &innermost, marks)?;
-    let listed = list_loops(
-        alloc,
-        &plan.addresses,
-        &plan.reverse,
-        &backs.sources,
-        &bounds,
-    )?;
+    let listed = list_loops(alloc, &plan.addresses, &plan.reverse, sources, &bounds)?;
     Ok(listed)
+}
+
+/// The least position on a cycle without back arcs, where some step that doesn't fall in rank is none.
+fn irregular_of(alloc: Global, plan: &Plan, steps: &[List<usize>]) -> Result<usize, AllocError>
+    requires { IsCrossed plan.now steps.now }
+    ensures { IfOk result (IsIrregularAt plan.now) }
+{
+    let backs = backs_of(alloc, &plan.table, steps, plan.entry)?;
+    match first_irregular(alloc, &plan.table, &backs)? {
+        Some(position) => Ok(position),
+        None => unreachable!(),
+    }
 }
 
 /// What is found of the loops of a graph.
@@ -104,13 +111,11 @@ pub fn find_in(
     ensures { IfOk result (IsFound graph.now plan.now marks.now) }
 {
     let ranks = ranks_of(alloc, &plan.table, plan.entry)?;
-    let backs = backs_of(alloc, &plan.table, &plan.reverse, &ranks, plan.entry)?;
-    if backs.clean {
-        let listed = regular_loops(alloc, graph, plan, &ranks, &backs, marks)?;
+    let steps = retreats_of(alloc, &plan.reverse, &ranks)?;
+    if are_backs(alloc, &plan.reverse, &steps, plan.entry)? {
+        let listed = regular_loops(alloc, graph, plan, &ranks, &steps, marks)?;
         return Ok(Found::Regular(listed));
     }
-    match first_irregular(alloc, &plan.table, &backs.sources)? {
-        Some(position) => Ok(Found::Irregular(position)),
-        None => unreachable!(),
-    }
+    let position = irregular_of(alloc, plan, &steps)?;
+    Ok(Found::Irregular(position))
 }

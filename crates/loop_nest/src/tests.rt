@@ -121,6 +121,21 @@ const NESTED: [u32; 11] = [
 /// A cycle that is entered at 00400008 and at 00400010.
 const MIDDLE: [u32; 8] = [0x1080_0003, 0, 0x2508_FFFF, 0, 0x1500_FFFD, 0, RETURN, 0];
 
+/// A cycle that is entered at 0040000C and at 00400014, in a loop of all units but the return.
+const INSIDE: [u32; 11] = [
+    0,
+    0x1080_0003,
+    0,
+    0x2508_FFFF,
+    0,
+    0x1500_FFFD,
+    0,
+    0x1480_FFF8,
+    0,
+    RETURN,
+    0,
+];
+
 #[test]
 fn finds_loops(rt: HostRuntime) -> Result<(), Fail> {
     let alloc = rt.alloc();
@@ -248,7 +263,7 @@ fn answers_the_first_fault_of_loops(rt: HostRuntime) -> Result<(), Fail> {
         0,
     ];
     // The words, the records, the fault and its address.
-    let cases: [(&[u32], &[Bound], CodeKind, u32); 6] = [
+    let cases: [(&[u32], &[Bound], CodeKind, u32); 7] = [
         (&COUNTED, &[], CodeKind::NoBound, 0x0040_0004),
         (
             &COUNTED,
@@ -265,6 +280,7 @@ fn answers_the_first_fault_of_loops(rt: HostRuntime) -> Result<(), Fail> {
         ),
         (&MIDDLE, &[(0x0040_0008, 4)], irreducible, 0x0040_0008),
         (&beside, &[], irreducible, 0x0040_0010),
+        (&INSIDE, &[(START, 3)], irreducible, 0x0040_000C),
     ];
     for (words, records, kind, address) in cases {
         let fault = loops_of(alloc, words, records)?.err();

@@ -1,5 +1,6 @@
 -- Lemmas on tables of steps.
 pub mod Leaving
+pub mod Listed
 pub mod Meeting
 pub mod Places
 pub mod Positions

@@ -27,7 +27,7 @@ unseen_by seen n x e h =
     let same : false ≡ true =
     slice_get-replicate n x false true (subst (λ (s : List Bool). IsSeen s x) e h) in cc
 
-nothing : (none : List ℕ) (x : ℕ) → none ≡ [] → Contains none x → ⊥
+pub nothing : (none : List ℕ) (x : ℕ) → none ≡ [] → Contains none x → ⊥
 nothing none x e h = in_none x (subst (λ (xs : List ℕ). Contains xs x) e h)
 
 -- At the start the starts wait.

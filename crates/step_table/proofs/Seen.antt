@@ -5,9 +5,11 @@ use Rattle.std.proofs.Math.ListN.{length-set}
 use Rattle.std.proofs.lemmas.Bool.{cases_eq}
 use Rattle.std.proofs.lemmas.List.{take_more}
 use Rattle.std.proofs.lemmas.List.Sums.{sum_by-set}
-use Rattle.std.proofs.lemmas.Option.{none-some, same_Some}
-use Rattle.std.proofs.lemmas.List.Elements.{Contains-append_left, Contains-append_right, Contains-append_cases, Contains-push}
+use Rattle.std.proofs.lemmas.Option.{get_or_from_slice_get, none-some, same_Some}
+use Rattle.std.proofs.lemmas.List.Elements.{Contains-append_left, Contains-append_right, Contains-append_cases, Contains-get_or, Contains-push}
+use Rattle.std.proofs.lemmas.List.Quantifiers.{all_pairs_push}
 use Rattle.step_table.specs.Search.{IsSeen, Sees, unseen}
+use Rattle.step_table.proofs.Places.{place_left}
 
 -- What stands in a list after a write.
 pub slice_get-set_same : {X : Type 0} (xs : List X) (i : ℕ) (v : X) → i < length xs →
@@ -77,6 +79,9 @@ Sees-new seen waiting position barred within free fresh = record {
     | inr e ↦ inr (subst (λ (at : ℕ). Contains (position ∷ []) at × (at ≡ barred → ⊥)) e (itself position, free))
   ];
   still = λ x h. Contains-append_left waiting (position ∷ []) x h;
+  front = λ k x h. place_left waiting (position ∷ []) k x h;
+  apart = λ known once. all_pairs_push (λ (x y : ℕ). x ≡ y → ⊥) waiting position once
+      (λ k d less same. unknown (subst (IsSeen seen) same (known (get_or waiting k d) (Contains-get_or waiting k d less))));
   new = λ x h. elim (seen_cases seen position x h) [
     | inl p ↦ inl p
     | inr e ↦ inr (subst (Contains (waiting ++ position ∷ [])) e (Contains-push waiting position))
@@ -97,6 +102,10 @@ Sees-new seen waiting position barred within free fresh = record {
     there : IsSeen (set seen position true) position
     there = slice_get-set_same seen position true within
 
+    unknown : IsSeen seen position → ⊥
+    unknown h =
+        let clash : true ≡ false = sym (get_or_from_slice_get seen position true false h) ∙ fresh in cc
+
 -- The lists stay.
 pub Sees-none : (positions : List ℕ) (barred : ℕ) (seen : List Bool) (waiting : List ℕ) →
     ((x : ℕ) → Contains positions x → (x ≡ barred → ⊥) → IsSeen seen x) →
@@ -107,6 +116,8 @@ Sees-none positions barred seen waiting there = record {
   there = there;
   only = λ x h. inl h;
   still = λ x h. h;
+  front = λ k x h. h;
+  apart = λ known once. once;
   new = λ x h. inl h;
   known = λ x h. inl h;
   counted = refl;
@@ -132,6 +143,11 @@ Sees-then xs ys barred seen waiting seen1 waiting1 seen2 waiting2 f g = record {
     | inr r ↦ inr (Contains-append_right xs ys x r.0, r.1)
   ];
   still = λ x h. g.still x (f.still x h);
+  front = λ k x h. g.front k x (f.front k x h);
+  apart = λ known once. g.apart (λ x h. elim (f.known x h) as (λ _. IsSeen seen1 x) [
+    | inl p ↦ f.kept x (known x p)
+    | inr q ↦ q
+  ]) (f.apart known once);
   new = λ x h. elim (g.new x h) [
     | inl p ↦ elim (f.new x p) [
       | inl q ↦ inl q

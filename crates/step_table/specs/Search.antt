@@ -1,6 +1,6 @@
 -- How a search over a table of steps stands: which positions were seen, and which of them still wait to
 -- be looked at.
-use Rattle.std.specs.Prelude.{◌≡◌, ℕ, ◌+◌, ◌⊎◌, List, length, Contains, slice_get, Bool, true, not, Some, count_by}
+use Rattle.std.specs.Prelude.{◌≡◌, ℕ, ◌+◌, ◌⊎◌, List, length, Contains, AllPairs, slice_get, Bool, true, not, Some, count_by}
 use Rattle.step_table.specs.Table.{IsMet, IsStep}
 
 -- A position was seen.
@@ -11,6 +11,10 @@ IsSeen seen position = slice_get seen position ≡ Some true
 abbrev pub unseen : List Bool → ℕ
 unseen seen = count_by not seen
 
+-- Each position stands in the list once.
+abbrev pub AreApart : List ℕ → Type 0
+AreApart positions = AllPairs (λ (x y : ℕ). x ≡ y → ⊥) positions
+
 -- The positions but the barred one are seen, and those wait that weren't seen before.
 pub record Sees (positions : List ℕ) (barred : ℕ) (seen : List Bool) (waiting : List ℕ)
     (later_seen : List Bool) (later_waiting : List ℕ) : Type 0 where
@@ -19,6 +23,8 @@ pub record Sees (positions : List ℕ) (barred : ℕ) (seen : List Bool) (waitin
   pub there : (x : ℕ) → Contains positions x → (x ≡ barred → ⊥) → IsSeen later_seen x
   pub only : (x : ℕ) → IsSeen later_seen x → IsSeen seen x ⊎ (Contains positions x × (x ≡ barred → ⊥))
   pub still : (x : ℕ) → Contains waiting x → Contains later_waiting x
+  pub front : (k x : ℕ) → slice_get waiting k ≡ Some x → slice_get later_waiting k ≡ Some x
+  pub apart : ((x : ℕ) → Contains waiting x → IsSeen seen x) → AreApart waiting → AreApart later_waiting
   pub new : (x : ℕ) → IsSeen later_seen x → IsSeen seen x ⊎ Contains later_waiting x
   pub known : (x : ℕ) → Contains later_waiting x → Contains waiting x ⊎ IsSeen later_seen x
   pub counted : unseen later_seen + length later_waiting ≡ unseen seen + length waiting

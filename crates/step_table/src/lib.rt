@@ -3,6 +3,7 @@
 
 mod cycles;
 mod finishing;
+mod listing;
 mod rings;
 mod search;
 mod table;
@@ -11,6 +12,7 @@ mod tests;
 
 pub use cycles::first_cyclic;
 pub use finishing::order_of;
+pub use listing::list_met;
 pub use rings::cyclic_positions;
 pub use search::{met_from, see_all, steps_at};
 pub use table::{position_of, reverse_of, steps_to};

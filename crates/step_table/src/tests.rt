@@ -4,7 +4,7 @@ ghost use Rattle.std.specs.Prelude.{◌≡◌, IfOk, length};
 ghost use Rattle.step_table.specs.Table.{IsWithin};
 
 use crate::{
-    cyclic_positions, first_cyclic, met_from, order_of, position_of, reverse_of, steps_to,
+    cyclic_positions, first_cyclic, list_met, met_from, order_of, position_of, reverse_of, steps_to,
 };
 use std::alloc::{AllocError, Global};
 use std::test::Fail;
@@ -35,6 +35,16 @@ fn tells_cycles_and_searches(rt: HostRuntime) -> Result<(), Fail> {
     assert_eq!(rt;
         met_from(alloc, &table, &[0], 1)?.as_slice(),
         [true, false, true].as_slice()
+    );
+    // One set of marks serves several searches.
+    let mut marks = vec![in alloc; false; 3]?;
+    assert_eq!(rt;
+        list_met(alloc, &table, &[2, 0], 1, &mut marks)?.as_slice(),
+        [2, 0].as_slice()
+    );
+    assert_eq!(rt;
+        list_met(alloc, &table, &[1], 3, &mut marks)?.as_slice(),
+        [1, 2].as_slice()
     );
     let back = reverse_of(alloc, &table)?;
     assert_eq!(rt; back.len(), 3);

@@ -1,23 +1,28 @@
-use Rattle.std.proofs.Common.{◌+◌, subst, sym, arith}
+use Rattle.std.proofs.Common.{List, ℕ, ◌<◌, All, length, subst, sym}
+use Rattle.std.proofs.lemmas.List.Sorted.{All-permutation}
+use Rattle.std.proofs.lemmas.Result.{IfOk-weaker}
+use Rattle.step_table.proofs.Positions.{Rises}
 use Rattle.loop_nest.specs.Listing.{IsListing}
-use Rattle.loop_nest.proofs.Collecting.{listing_more, listing_same, listing_start}
-use Rattle.loop_nest.proofs.Removing.{seen_by, unseen_from}
+use Rattle.loop_nest.proofs.Collecting.{listing_moved, rises_sorted}
 use Rattle.loop_nest.proofs.listing.addresses_in.Goals as goal
 
-pub loop-position-init : goal.loop-position-init
-loop-position-init c = listing_start c.args.addresses.now c.args.inside.now c.new-list.result c.new-list.ensures
+pub addresses_at-requires-clause-positions : goal.addresses_at-requires-clause-positions
+addresses_at-requires-clause-positions c =
+    subst Rises (sym c.deref.ensures.value)
+    (rises_sorted c.args.positions.items c.sort_unstable.new.self.items c.requires.apart
+    c.sort_unstable.ensures.permutation c.sort_unstable.ensures.sorted)
 
-pub loop-position-preserved-then-not-inside-position : goal.loop-position-preserved-then-not-inside-position
-loop-position-preserved-then-not-inside-position c =
-    listing_same c.args.addresses.now c.args.inside.now c.loop-position.position c.loop-position.list
-    c.loop-position.invariant
-    (unseen_from c.args.inside.now c.loop-position.position
-    (omega (arith, c.requires.count, c.loop-position-test.true)) c.if-not-inside-position.true)
+pub addresses_at-requires-clause-within : goal.addresses_at-requires-clause-within
+addresses_at-requires-clause-within c =
+    subst (All (λ (x : ℕ). x < length c.args.addresses.now)) (sym c.deref.ensures.value)
+    (All-permutation (λ (x : ℕ). x < length c.args.addresses.now) c.args.positions.items c.sort_unstable.new.self.items
+    c.sort_unstable.ensures.permutation c.requires.within)
 
-pub loop-position-preserved : goal.loop-position-preserved
-loop-position-preserved c =
-    subst (IsListing c.args.addresses.now c.args.inside.now (c.loop-position.position + 1)) (sym c.in_ok-push.ensures.ok)
-    (listing_more c.args.addresses.now c.args.inside.now c.loop-position.position c.loop-position.list _
-    c.requires.rising c.loop-position.invariant c.loop-position-test.true
-    (seen_by c.args.inside.now c.loop-position.position
-    (omega (arith, c.requires.count, c.loop-position-test.true)) c.if-not-inside-position.false))
+pub returns : goal.returns
+returns c =
+    IfOk-weaker c.addresses_at.result (IsListing c.args.addresses.now c.deref.result.now)
+    (IsListing c.args.addresses.now c.args.positions.items)
+    (λ list listing. listing_moved c.args.addresses.now c.args.positions.items c.sort_unstable.new.self.items list
+    c.sort_unstable.ensures.permutation
+    (subst (λ (ps : List ℕ). IsListing c.args.addresses.now ps list) c.deref.ensures.value listing))
+    c.addresses_at.ensures

@@ -1,27 +1,23 @@
-use Rattle.std.proofs.Common.{◌+◌, ℕ, List, subst, sym, take, arith}
-use Rattle.std.proofs.lemmas.List.{take_all}
-use Rattle.loop_nest.proofs.Removing.{AreUnseen, unseen_more, unseen_none, unseen_same}
+use Rattle.std.proofs.Common.{◌+◌, ℕ, subst, sym, take, arith}
+use Rattle.step_table.specs.Search.{IsSeen}
+use Rattle.loop_nest.proofs.Choosing.{AreChosen, chosen_end, chosen_more, chosen_same, seen_by, unseen_from}
 use Rattle.loop_nest.proofs.removal.unseen_of.Goals as goal
-
-pub loop-position-init : goal.loop-position-init
-loop-position-init c = unseen_none c.args.seen.now c.new-list.result c.new-list.ensures
 
 pub loop-position-preserved-then-seen-position : goal.loop-position-preserved-then-seen-position
 loop-position-preserved-then-seen-position c =
-    unseen_same c.args.positions.now c.loop-position.position-index c.args.seen.now c.loop-position.list
-    c.loop-position-test.true (c.requires c.loop-position.position-index 0 c.loop-position-test.true)
-    c.loop-position.invariant c.if-seen-position.true
+    chosen_same (λ (x : ℕ). IsSeen c.args.seen.now x → ⊥) c.args.positions.now c.loop-position.position-index
+    c.loop-position.list c.loop-position-test.true c.loop-position.invariant
+    (λ h. h (seen_by c.args.seen.now _ (c.requires c.loop-position.position-index 0 c.loop-position-test.true) c.if-seen-position.true))
 
 pub loop-position-preserved : goal.loop-position-preserved
 loop-position-preserved c =
-    subst (AreUnseen (take (c.loop-position.position-index + 1) c.args.positions.now) c.args.seen.now)
+    subst (AreChosen (λ (x : ℕ). IsSeen c.args.seen.now x → ⊥) (take (c.loop-position.position-index + 1) c.args.positions.now))
     (sym c.in_ok-push.ensures.ok)
-    (unseen_more c.args.positions.now c.loop-position.position-index c.args.seen.now c.loop-position.list
-    c.loop-position-test.true (c.requires c.loop-position.position-index 0 c.loop-position-test.true)
-    c.loop-position.invariant c.if-seen-position.false)
+    (chosen_more (λ (x : ℕ). IsSeen c.args.seen.now x → ⊥) c.args.positions.now c.loop-position.position-index
+    c.loop-position.list c.loop-position-test.true c.loop-position.invariant
+    (unseen_from c.args.seen.now _ (c.requires c.loop-position.position-index 0 c.loop-position-test.true) c.if-seen-position.false))
 
 pub returns : goal.returns
 returns c =
-    subst (λ (positions : List ℕ). AreUnseen positions c.args.seen.now c.loop-position.list)
-    (take_all c.loop-position.position-index c.args.positions.now (omega (arith, c.loop-position-test.false)))
-    c.loop-position.invariant
+    chosen_end (λ (x : ℕ). IsSeen c.args.seen.now x → ⊥) c.args.positions.now c.loop-position.position-index
+    c.loop-position.list (omega (arith, c.loop-position-test.false)) c.loop-position.invariant

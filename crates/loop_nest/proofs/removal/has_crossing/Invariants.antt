@@ -1,9 +1,0 @@
-use Rattle.std.proofs.Common.{ℕ, ◌<◌, take}
-use Rattle.std.specs.Prelude.{Contains}
-use Rattle.step_table.specs.Numbers.{number_of}
-use Rattle.step_table.specs.Search.{IsSeen}
-use Rattle.loop_nest.proofs.removal.has_crossing.Given as goal
-
-abbrev pub invariant-loop-position : goal.invariant-loop-position
-invariant-loop-position l =
-    (x : ℕ) → Contains (take l.position-index l.positions) x → IsSeen l.seen x → number_of l.ranks l.header < number_of l.ranks x
