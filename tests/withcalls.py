@@ -97,6 +97,8 @@ WORKED = [
     ("a call with a BREAK in its slot, which calls nothing", Image(STOPPED), PLAIN, 22 + 22),
     ("a JALR of two targets", Image(LINKED, TWO_LINKED), PLAIN, 22 + 33 + 22),
     ("a JALR of one target", Image(LINKED, TWO_LINKED[:1]), PLAIN, 22 + 22 + 22),
+    ("a JALR of which one target returns", Image(LINKED + [BREAK], TWO_LINKED[:1] + [(2, START, at(0x24), 0)]), PLAIN, 66),
+    ("a return with a recorded target", Image(RETURN + [0xFFFFFFFF], [(2, START, at(8), 0)]), PLAIN, 22),
     ("a BGEZAL that may be not taken", linked_branch(0x04910003, [COUNT] + RETURN), PLAIN, 22 + 33 + 22),
     ("a BGEZAL of register 0", linked_branch(0x04110003, [COUNT] + RETURN), PLAIN, 22 + 33 + 22),
     ("a BLTZAL of register 0, which isn't taken", linked_branch(0x04100003, [0xFFFFFFFF]), PLAIN, 22 + 22),
@@ -115,11 +117,14 @@ WORKED = [
         Profile(entry="task"), 33,
     ),
     (
-        "the second of two symbols, with a record", Image(SHARED, [(1, at(0x24), 3, 0)], [("main", START, 1), ("f", at(0x18), 2)]),
+        "the second of two symbols, with a record",
+        Image(SHARED, [(1, at(0x24), 3, 0)], [("main", START, 1), ("f", at(0x18), 2)]),
         Profile(memory=100, entry="f"), 2 * 101 + 3 * 303 + 202,
     ),
 ]
 
+# A function that calls itself, and one with an arc into a cycle.
+BOTH = call(0x18) + call(0) + RETURN + [0x10800003, NOP, COUNT, NOP, 0x1500FFFD, NOP] + RETURN
 MUTUAL = call(0x10) + RETURN + call(0x20) + RETURN + call(0x10) + RETURN
 # An arc into the middle of a cycle, and a loop without a record, in a function that is called.
 ENTERED = call(0x10) + RETURN + [0x10800003, NOP, COUNT, NOP, 0x1500FFFD, NOP] + RETURN
@@ -135,6 +140,7 @@ REFUSED = [
     ),
     ("fifteen functions that each call the next one twice", doubling(15), PLAIN, "refused too-many-units 00400000"),
     ("a function that calls itself", Image(call(0) + RETURN), PLAIN, "refused recursion 00400000"),
+    ("a function that calls itself, and an arc into a cycle", Image(BOTH), PLAIN, "refused recursion 00400000"),
     ("two functions that call each other", Image(MUTUAL), PLAIN, "refused recursion 00400010"),
     (
         "a link to register 2", Image([0x00601009, NOP] + RETURN, [(2, START, at(8), 0)]), PLAIN,
@@ -157,7 +163,13 @@ REFUSED = [
     ("a call with a transfer in its slot", Image(call(0)[:1] + RETURN), PLAIN, "refused transfer-in-slot 00400004"),
     ("code that can be written", Image(call(8) + RETURN, flags=ALL_RIGHTS), PLAIN, "refused writable-code 00400000"),
     ("an entry between words", Image(RETURN, entry=at(2)), PLAIN, "refused unknown-word 00400002"),
-    ("a symbol that isn't there", Image(RETURN, [], [("main", START, 1)]), Profile(entry="task"), "refused no-symbol 00000000"),
-    ("a symbol without a section", Image(RETURN, [], [("task", START, 0)]), Profile(entry="task"), "refused no-symbol 00000000"),
+    (
+        "a symbol that isn't there", Image(RETURN, [], [("main", START, 1)]), Profile(entry="task"),
+        "refused no-symbol 00000000",
+    ),
+    (
+        "a symbol without a section", Image(RETURN, [], [("task", START, 0)]), Profile(entry="task"),
+        "refused no-symbol 00000000",
+    ),
     ("a symbol of a file without symbols", Image(RETURN), Profile(entry="task"), "refused no-symbol 00000000"),
 ]
