@@ -6,10 +6,6 @@ use Rattle.std.proofs.lemmas.List.{length-map}
 use Rattle.std.proofs.lemmas.Option.{none-some, same_Some, slice_get-get_or, slice_get_within}
 use Rattle.std.proofs.lemmas.List.Elements.{All-contains}
 use Rattle.elf_mips.specs.declared.image.Image.{Image}
-use Rattle.net_model.specs.declared.unit.CodeUnit.{CodeUnit}
-use Rattle.net_model.specs.declared.unit.Content.TheVariants.{Unit as Stands}
-use Rattle.net_model.specs.Targets.{unit_at}
-use Rattle.net_model.specs.Onward.{onward}
 use Rattle.net_model.specs.Functions.{IsReached}
 use Rattle.net_model.specs.Functions.{first, next}
 use Rattle.net_model.specs.Functions.{GoesOn}

@@ -1,5 +1,5 @@
 -- The loops of all functions of a program, from those of each.
-use Rattle.std.proofs.Common.{◌≡◌, ℕ, ◌<◌, ◌≤◌, List, [], ◌∷◌, ◌++◌, All, map, length, get_or, Option, Some, None, zero, suc, refl, sym, subst, ap, ◌∙◌, arith, inl, inr, ◌⊎◌}
+use Rattle.std.proofs.Common.{◌≡◌, ℕ, ◌<◌, ◌≤◌, List, [], ◌∷◌, ◌++◌, All, map, Option, Some, None, zero, suc, refl, sym, subst, arith, inl, inr, ◌⊎◌}
 use Rattle.std.specs.Prelude.{Contains, IfSome}
 use Rattle.std.specs.List.{AllZip}
 use Rattle.std.proofs.lemmas.Bool.{cases_lt}
@@ -10,7 +10,7 @@ use Rattle.loop_nest.specs.declared.find.Answer.TheVariants as answer
 use Rattle.loop_nest.specs.declared.nest.Loop.{Loop}
 use Rattle.loop_nest.specs.Nests.{IsFirstIrreducible, IsFirstUnbounded, IsLoop, IsNest, TellsKind}
 use Rattle.loop_nest.specs.Plans.{IsAnswer}
-use Rattle.loop_nest.specs.Programs.{Follows, HasAnswer, IsAmong, IsFoundIn, IsIrreducibleIn, IsLeastIrreducible, IsLeastUnbounded, IsNestOf, IsUnboundedIn, TellsKindIn}
+use Rattle.loop_nest.specs.Programs.{Follows, HasAnswer, IsAmong, IsFoundIn, IsNestOf, TellsKindIn}
 use Rattle.loop_nest.proofs.HeaderRank.{ranks-reducible}
 use Rattle.net_model.specs.declared.unit.CodeKind.{CodeKind}
 use Rattle.net_model.specs.declared.unit.CodeKind.TheVariants as kind

@@ -12,7 +12,7 @@ use Rattle.loop_nest.specs.Bodies.{AreBelow, AreInner, AreNoted, Holds, IsBody, 
 use Rattle.step_table.specs.Listing.{ListsMet}
 use Rattle.step_table.specs.Numbers.{number_of}
 use Rattle.step_table.specs.Search.{AreApart}
-use Rattle.step_table.specs.Table.{IsMet, IsStep}
+use Rattle.step_table.specs.Table.{IsMet}
 use Rattle.loop_nest.proofs.Choosing.{pair_before}
 use Rattle.step_table.proofs.Seen.{in_none, slice_get-replicate, slice_get-set_other, slice_get-set_same}
 

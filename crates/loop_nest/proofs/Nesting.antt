@@ -1,7 +1,6 @@
 -- The loops that were listed are those of the function.
 use Rattle.std.proofs.Common.{◌≡◌, ℕ, ◌<◌, List, [], ◌∷◌, map, length, get_or, Option, Some, None, refl, sym, subst, ap, ◌∙◌, arith}
 use Rattle.std.specs.Prelude.{Contains, slice_get, zero, suc}
-use Rattle.std.proofs.lemmas.Bool.{OnTrue_at}
 use Rattle.std.proofs.lemmas.Option.{none-some, same_Some, slice_get-get_or, slice_get_within}
 use Rattle.std.proofs.lemmas.List.Elements.{Contains-get_or}
 use Rattle.elf_mips.specs.declared.image.Image.{Image}
@@ -24,7 +23,6 @@ use Rattle.loop_nest.proofs.Irreducibles.{first_irreducible, lesser_place}
 use Rattle.loop_nest.proofs.Planning.{laid_of}
 use Rattle.step_table.proofs.Positions.{contains_at, place_of}
 use Rattle.loop_nest.proofs.Regular.{body_holds, bounds_named, head_of, header_of, holds_body, IsRegular, named_bounds, ranks_by}
-use Rattle.step_table.proofs.Reversing.{step_within}
 
 -- What was found, with the image.
 pub record IsKnown (image : Image) (entry : ℕ) (graph : Graph) (addresses : List ℕ) (table reverse sources : List (List ℕ))

@@ -1,7 +1,6 @@
 -- The plan of a graph, and what is found by it.
-use Rattle.std.proofs.Common.{◌≡◌, ℕ, ◌<◌, false, List, map, length, get_or, Some, None, refl, sym, subst, ap, ◌∙◌, arith}
+use Rattle.std.proofs.Common.{◌≡◌, ℕ, ◌<◌, List, map, length, get_or, Some, None, refl, sym, subst, ap, ◌∙◌, arith}
 use Rattle.std.specs.Prelude.{AllPairs, Contains, slice_get}
-use Rattle.std.proofs.lemmas.Bool.{OnFalse_at}
 use Rattle.std.proofs.lemmas.List.{length-map}
 use Rattle.std.proofs.lemmas.Option.{get_or_from_slice_get, slice_get-get_or, slice_get_within}
 use Rattle.elf_mips.specs.declared.image.Image.{Image}
@@ -14,7 +13,6 @@ use Rattle.loop_nest.specs.Arcs.{AreBacks}
 use Rattle.step_table.specs.Cycles.{IsCyclic}
 use Rattle.loop_nest.specs.Cycles.{IsFirstIrregular}
 use Rattle.loop_nest.specs.Plans.{IsCrossed, IsPlan}
-use Rattle.loop_nest.specs.Ranks.{AreRanks}
 use Rattle.step_table.specs.Table.{IsReverse, IsWithin}
 use Rattle.loop_nest.specs.Table.{IsTableOf}
 use Rattle.loop_nest.proofs.Bounding.{address_of, unit_at}

@@ -1,9 +1,9 @@
 -- Steps that don't fall in rank: all back arcs are among them, and they are the back arcs where no header is passed by.
-use Rattle.std.proofs.Common.{◌≡◌, ℕ, ◌+◌, ◌<◌, ◌≤◌, List, [], ◌∷◌, ◌++◌, length, length-append, sym, subst, ap, ◌∙◌, Some, arith, inl, inr}
+use Rattle.std.proofs.Common.{◌≡◌, ℕ, ◌+◌, ◌<◌, ◌≤◌, List, [], ◌∷◌, ◌++◌, length, length-append, sym, subst, ◌∙◌, Some, arith, inl, inr}
 use Rattle.std.specs.Prelude.{Contains, slice_get}
 use Rattle.std.proofs.lemmas.Bool.{cases_eq, cases_lt}
 use Rattle.std.proofs.lemmas.Option.{same_Some}
-use Rattle.loop_nest.specs.Arcs.{AreBacks, AreKept, AreRetreats, AreRetreatsTo, Crosses, HaveBacks, IsBack, IsPassedBy}
+use Rattle.loop_nest.specs.Arcs.{AreBacks, AreKept, AreRetreats, AreRetreatsTo, Crosses, HaveBacks, IsPassedBy}
 use Rattle.loop_nest.specs.declared.plan.Plan.{Plan}
 use Rattle.loop_nest.specs.Plans.{IsCrossed}
 use Rattle.loop_nest.specs.Ranks.{AreRanks}

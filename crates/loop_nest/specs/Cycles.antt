@@ -1,5 +1,5 @@
 -- Cycles of steps that are no back arcs, by the positions.
-use Rattle.std.specs.Prelude.{◌≡◌, ℕ, ◌<◌, ◌↔◌, List, length, Contains, Option, Some, None, slice_get}
+use Rattle.std.specs.Prelude.{◌≡◌, ℕ, ◌↔◌, List, length, Contains, Option}
 use Rattle.step_table.specs.Cycles.{IsFirstCyclic}
 use Rattle.step_table.specs.Table.{IsStep}
 

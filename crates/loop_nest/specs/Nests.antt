@@ -1,5 +1,5 @@
 -- The loops of a function, and what is answered where they have a fault.
-use Rattle.std.specs.Prelude.{◌≡◌, ℕ, ◌<◌, List, [], ◌∷◌, map, All, AllPairs, Contains}
+use Rattle.std.specs.Prelude.{ℕ, ◌<◌, List, map, All, AllPairs, Contains}
 use Rattle.elf_mips.specs.declared.image.Image.{Image}
 use Rattle.loop_nest.specs.declared.nest.Loop.{Loop}
 use Rattle.net_model.specs.declared.unit.CodeKind.{CodeKind}

@@ -1,5 +1,5 @@
 -- How a search in depth numbers positions, and what is known of the numbers.
-use Rattle.std.specs.Prelude.{◌≡◌, ℕ, ◌+◌, ◌*◌, ◌<◌, ◌≤◌, ◌==◌, ◌⊎◌, List, length, Contains, slice_get, Some, None, Option, count_by, slice_index_or}
+use Rattle.std.specs.Prelude.{◌≡◌, ℕ, ◌+◌, ◌*◌, ◌<◌, ◌≤◌, ◌==◌, ◌⊎◌, List, length, Contains, slice_get, Some, None, Option, count_by}
 use Rattle.step_table.specs.Numbers.{number_of}
 use Rattle.step_table.specs.Table.{IsStep}
 

@@ -1,12 +1,12 @@
 -- How the list of the positions to which steps lead grows, and that it has all of them at its end.
-use Rattle.std.proofs.Common.{◌≡◌, ℕ, ◌+◌, ◌<◌, ◌≤◌, All, Bool, true, List, [], ◌∷◌, length, get_or, sym, subst, ◌∙◌, Some, arith, inl, inr}
+use Rattle.std.proofs.Common.{◌≡◌, ℕ, ◌+◌, ◌<◌, All, Bool, true, List, [], length, get_or, sym, subst, ◌∙◌, Some, arith, inl, inr}
 use Rattle.std.specs.Prelude.{Contains, slice_get}
 use Rattle.std.proofs.lemmas.Bool.{cases_eq}
 use Rattle.std.proofs.lemmas.Option.{same_Some, slice_get-get_or, slice_get_within}
 use Rattle.std.proofs.lemmas.List.Elements.{Contains-get_or}
 use Rattle.step_table.specs.Listing.{AreUnmarked, IsListed, ListsMet, ListsSeen}
 use Rattle.step_table.specs.Search.{AreApart, IsPassed, IsSeen, Sees}
-use Rattle.step_table.specs.Table.{IsMet, IsStep}
+use Rattle.step_table.specs.Table.{IsMet}
 use Rattle.step_table.proofs.Meeting.{a_step, nothing, step_among}
 use Rattle.step_table.proofs.Positions.{contains_at, place_of}
 

@@ -1,8 +1,6 @@
-use Rattle.std.proofs.Common.{◌≡◌, ◌∙◌, ℕ, List, None, Some, All, subst, sym}
-use Rattle.std.specs.List.{AllZip}
-use Rattle.unit_graph.specs.Graphs.{IsGraph, IsGraphIn}
+use Rattle.std.proofs.Common.{List, subst}
 use Rattle.unit_graph.specs.declared.graph.Graph.{Graph}
-use Rattle.loop_nest.specs.Programs.{IsFoundIn, IsNestOf}
+use Rattle.loop_nest.specs.Programs.{IsFoundIn}
 use Rattle.loop_nest.proofs.Finding.{found_tells}
 use Rattle.loop_nest.proofs.find.find_loops.Goals as goal
 

@@ -1,4 +1,4 @@
-use Rattle.std.proofs.Common.{◌≡◌, ◌+◌, ◌++◌, ◌∷◌, [], ℕ, List, Some, take, subst, sym, arith}
+use Rattle.std.proofs.Common.{List, Some, take, subst, sym}
 use Rattle.unit_graph.specs.Graphs.{IsGraph}
 use Rattle.unit_graph.specs.declared.graph.Graph.{Graph}
 use Rattle.unit_graph.proofs.Foremost.{one_more}

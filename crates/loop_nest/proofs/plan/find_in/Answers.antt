@@ -1,10 +1,9 @@
-use Rattle.std.proofs.Common.{ℕ, List, subst, sym, ◌∙◌, ap, length, arith}
+use Rattle.std.proofs.Common.{ℕ, List, subst, sym, arith}
 use Rattle.std.proofs.lemmas.Bool.{OnFalse_at, OnTrue_at}
 use Rattle.std.proofs.lemmas.Option.{slice_get_within}
 use Rattle.loop_nest.specs.Arcs.{AreBacks, AreKept, AreRetreats, AreUnpassed}
 use Rattle.loop_nest.specs.Plans.{IsCrossed}
 use Rattle.loop_nest.specs.Ranks.{AreRanks}
-use Rattle.step_table.specs.Table.{IsWithin}
 use Rattle.loop_nest.proofs.Retreating.{backs_all, crossed_plan, kept_all}
 use Rattle.loop_nest.proofs.plan.find_in.Goals as goal
 

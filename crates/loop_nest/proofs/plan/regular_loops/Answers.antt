@@ -1,9 +1,6 @@
-use Rattle.std.proofs.Common.{ℕ, List, Option, length, ap, ◌∙◌, subst, sym, arith}
+use Rattle.std.proofs.Common.{length, ap, ◌∙◌, subst, sym, arith}
 use Rattle.std.proofs.lemmas.List.{length-map}
-use Rattle.unit_graph.specs.declared.node.Unit.{Unit as Node}
-use Rattle.loop_nest.specs.Bodies.{AreBelow, AreInner}
-use Rattle.loop_nest.specs.Bounds.{AreBounds}
-use Rattle.loop_nest.specs.Listing.{IsListed}
+use Rattle.loop_nest.specs.Bodies.{AreBelow}
 use Rattle.loop_nest.proofs.Bounding.{address_of}
 use Rattle.loop_nest.proofs.Holding.{below_all}
 use Rattle.loop_nest.proofs.plan.regular_loops.Goals as goal

@@ -1,6 +1,5 @@
 use Rattle.std.proofs.Common.{arith}
 use Rattle.std.proofs.lemmas.Option.{slice_get_within}
-use Rattle.step_table.specs.Table.{IsMet}
 use Rattle.loop_nest.proofs.Retreating.{unpassed_more}
 use Rattle.loop_nest.proofs.retreats.are_unpassed.Goals as goal
 

@@ -1,4 +1,4 @@
-use Rattle.std.proofs.Common.{◌≡◌, length, arith}
+use Rattle.std.proofs.Common.{arith}
 use Rattle.std.proofs.lemmas.Option.{slice_get_read}
 use Rattle.step_table.proofs.Listed.{listed_more, listed_next, listed_start}
 use Rattle.step_table.proofs.listing.list_seen.Goals as goal

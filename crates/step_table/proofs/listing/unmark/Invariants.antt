@@ -1,4 +1,4 @@
-use Rattle.std.proofs.Common.{ℕ, ◌≡◌, length, take}
+use Rattle.std.proofs.Common.{ℕ, take}
 use Rattle.std.specs.Prelude.{Contains}
 use Rattle.step_table.specs.Search.{IsSeen}
 use Rattle.step_table.proofs.listing.unmark.Given as goal
