@@ -13,6 +13,11 @@ use indexmap::IndexSet;
 use std::alloc::{AllocError, Global};
 use unit_graph::Graphs;
 
+/// The most contexts and places of a net.
+const MOST_CONTEXTS: u64 = 16_384;
+
+const MOST_PLACES: u64 = 65_536;
+
 /// The contexts of a program, with the graphs of their functions and the numbers of their places.
 #[derive(Drop)]
 pub struct Layout {
@@ -43,7 +48,7 @@ impl Layout {
             site,
             target: callee,
         };
-        prove!(self.contexts.len() <= 16384);
+        prove!(self.contexts.len() as u64 <= MOST_CONTEXTS);
         match self.contexts.get_index_of(&context) {
             Some(number) => number as u32,
             None => unreachable!(),
@@ -76,13 +81,14 @@ fn is_too_many(sizes: Sizes) -> bool
     ensures contexts { OnFalse result (sizes.contexts ≤ most_contexts) }
     ensures places { OnFalse result (sizes.places ≤ most_places) }
 {
-    sizes.contexts > 16384 || sizes.places > 65536
+    sizes.contexts > MOST_CONTEXTS || sizes.places > MOST_PLACES
 }
 
 /// The contexts of a program and their places, laid out.
 ///
 /// `NeverReturns` and `TooMany` come in this order; the numbers of contexts and places are counted before
-/// any context is made.
+/// any context is made. It takes a bisection of the graphs for each call of a unit, and a step for each
+/// context.
 pub fn layout_of(alloc: Global, graphs: &Graphs) -> Result<Layout, NetFault>
     requires { (image : Image) × (entry : ℕ) × HasGraphs image entry graphs.now }
     ensures layout { IfOk result (λ layout. (image : Image) (entry : ℕ) → HasGraphs image entry graphs.now →

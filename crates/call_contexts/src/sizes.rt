@@ -12,11 +12,14 @@ use step_table::{order_of, steps_at};
 use unit_graph::Graph;
 use wcet_io::List;
 
+/// The greatest number that is told.
+const MOST_TOLD: u64 = 1 << 63;
+
 /// The sum of two numbers, or 2^63 where it is more.
 fn sum_told(a: u64, b: u64) -> u64
     ensures { result ≡ told_of (a + b) }
 {
-    a.saturating_add(b).min(1 << 63)
+    a.saturating_add(b).min(MOST_TOLD)
 }
 
 /// A number and those at the positions to which steps go, taken together, or 2^63 where these are more.
