@@ -134,7 +134,10 @@ fn makes_a_context_for_each_target(rt: HostRuntime) -> Result<(), Fail> {
     let f = 0x0040_0010;
     let g = 0x0040_0018;
     let contexts = [made(0, 0, START), made(0, START, f), made(0, START, g)];
-    for records in [[(2, START, f), (2, START, g)], [(2, START, g), (2, START, f)]] {
+    for records in [
+        [(2, START, f), (2, START, g)],
+        [(2, START, g), (2, START, f)],
+    ] {
         assert!(rt;
             lays_out(
                 alloc,

@@ -42,10 +42,10 @@ loops-few : (image : Image) (entry : ℕ) (net : Net) → IsNet image entry net 
 loops-few image entry net is =
     loops-by net.loops (length net.places) is.loops.rising
     (λ k d inside.
-        let inst = is.loops.each (suc k) (get_or net.loops k d) (slice_get-get_or net.loops k d inside) in (
-          place-positive net (get_or net.loops k d).header inst.context inst.header inst.at,
-          place-within net (get_or net.loops k d).header inst.context inst.header inst.at,
-        ))
+    let inst = is.loops.each (suc k) (get_or net.loops k d) (slice_get-get_or net.loops k d inside) in (
+      place-positive net (get_or net.loops k d).header inst.context inst.header inst.at,
+      place-within net (get_or net.loops k d).header inst.context inst.header inst.at,
+    ))
 
 -- The lists of the net are within the limits of the solver.
 pub few-of : (image : Image) (entry : ℕ) (net : Net) → IsNet image entry net → length net.arcs ≤ 2 ^ 25 → length net.places ≤ most_places →

@@ -169,9 +169,9 @@ module _ (profile : Profile) (image : Image) (net : Net) (units : HasUnits image
       let after = calls_after open_calls (value_step (image_code image.segments) s) in
       priced-step open_calls s t later from number numbers to arc path.1.1 path.0 zip.0 is_zero run targets
       (λ zero. priced later after t arc.to numbers to path.1.3
-          (subst (λ (n : ℕ). AllZip (StandsAt net) (stands (image_code image.segments) after t later) (n ∷ targets_along net.arcs numbers))
-          (ap target_of path.1.1) zip.1)
-          zero run.1 targets.1 place)
+      (subst (λ (n : ℕ). AllZip (StandsAt net) (stands (image_code image.segments) after t later) (n ∷ targets_along net.arcs numbers))
+      (ap target_of path.1.1) zip.1)
+      zero run.1 targets.1 place)
 
   -- So the cycles of a run along a path from arc 1 on are at most the bound of a certificate.
   path-bound : (entry : ℕ) (certificate : Certificate) (s : State) (states : List State) → IsNet image entry net → Certifies image profile net certificate →

@@ -3,11 +3,11 @@ use Rattle.call_contexts.proofs.tests.net_of.Goals as goal
 
 pub expand-requires : goal.expand-requires
 expand-requires c = (
-      c.in_ok-image.image,
-      4194304,
-      record {
-        graphs_are = c.in-Ok.ensures.graphs;
-        nests_are = c.in-Ok-find_loops.ensures.nests;
-        faultless = c.in-Ok.ensures.faultless;
-      },
-    )
+  c.in_ok-image.image,
+  4194304,
+  record {
+    graphs_are = c.in-Ok.ensures.graphs;
+    nests_are = c.in-Ok-find_loops.ensures.nests;
+    faultless = c.in-Ok.ensures.faultless;
+  },
+)
