@@ -5,7 +5,7 @@ use Rattle.std.proofs.Math.ListN.{length-set, length-replicate}
 use Rattle.std.proofs.lemmas.Bool.{cases_eq, cases_lt}
 use Rattle.std.proofs.lemmas.Option.{same_Some}
 use Rattle.step_table.specs.Numbers.{number_of}
-use Rattle.loop_nest.specs.Ranks.{AreRanks, IsPlaced, IsWalk}
+use Rattle.loop_nest.specs.Ranks.{AreLooked, AreRanks, IsPlaced, IsWalk, KeepsNumbers}
 use Rattle.step_table.specs.Table.{AreMet, IsMet}
 use Rattle.step_table.proofs.Seen.{alone}
 use Rattle.step_table.proofs.Places.{number_none, number_other, number_outside, number_same, place_last, place_within, zeros, zeros_fewer, zeros_none}
@@ -113,3 +113,20 @@ last_within table entry numbers count rest last walk = elim (cases_lt last (leng
     length-append rest (last ∷ []),
   ))
 ]
+
+-- At the start no step was looked at.
+pub looked_start : (table : List (List ℕ)) (numbers looked : List ℕ) → looked ≡ replicate (length table) 0 →
+    AreLooked table numbers looked
+looked_start table numbers looked none = record {
+  count = ap length none ∙ length-replicate (length table) 0;
+  passed = λ x steps there i to here less.
+      absurd (omega (arith, less, ap (λ (xs : List ℕ). number_of xs x) none ∙ number_none (length table) x));
+}
+
+-- What was looked at stays so while the search goes on.
+pub looked_kept : (table : List (List ℕ)) (numbers later looked : List ℕ) → AreLooked table numbers looked →
+    KeepsNumbers numbers later → AreLooked table later looked
+looked_kept table numbers later looked are kept = record {
+  count = are.count;
+  passed = λ x steps there i to here less. kept to (are.passed x steps there i to here less);
+}

@@ -1,5 +1,5 @@
 -- How a search in depth numbers positions, and what is known of the numbers.
-use Rattle.std.specs.Prelude.{◌≡◌, ℕ, ◌+◌, ◌*◌, ◌<◌, ◌≤◌, ◌==◌, ◌⊎◌, List, length, Contains, slice_get, Some, None, Option, count_by}
+use Rattle.std.specs.Prelude.{◌≡◌, ℕ, ◌+◌, ◌*◌, ◌<◌, ◌≤◌, ◌==◌, ◌⊎◌, List, length, slice_get, Some, count_by}
 use Rattle.step_table.specs.Numbers.{number_of}
 use Rattle.step_table.specs.Table.{IsStep}
 
@@ -64,7 +64,16 @@ pub record IsWalk (table : List (List ℕ)) (entry : ℕ) (numbers : List ℕ) (
       IsHigh table numbers (number_of numbers position) entry position
   pub settled : (from to : ℕ) → IsRanked numbers count from → IsStep table from to → IsSettled table numbers from to
 
--- The first position of a list that the search hasn't come to, or none.
-abbrev pub IsFirstNew : List ℕ → List ℕ → Option ℕ → Type 0
-IsFirstNew numbers positions None = (x : ℕ) → Contains positions x → 0 < number_of numbers x
-IsFirstNew numbers positions (Some next) = Contains positions next × (number_of numbers next ≡ 0)
+-- The search has come to the first positions of a list, so many of them.
+abbrev pub ArePassed : (numbers positions : List ℕ) → (count : ℕ) → Type 0
+ArePassed numbers positions count =
+    (i to : ℕ) → slice_get positions i ≡ Some to → i < count → 0 < number_of numbers to
+
+-- Of each position so many steps were looked at: the search has come to where they lead.
+pub record AreLooked (table : List (List ℕ)) (numbers looked : List ℕ) : Type 0 where
+  pub count : length looked ≡ length table
+  pub passed : (x : ℕ) (steps : List ℕ) → slice_get table x ≡ Some steps → ArePassed numbers steps (number_of looked x)
+
+-- Each position that has a number keeps having one.
+abbrev pub KeepsNumbers : (numbers later : List ℕ) → Type 0
+KeepsNumbers numbers later = (x : ℕ) → 0 < number_of numbers x → 0 < number_of later x

@@ -1,8 +1,0 @@
-use Rattle.std.proofs.Common.{ℕ, ◌<◌, take}
-use Rattle.std.specs.Prelude.{Contains}
-use Rattle.step_table.specs.Numbers.{number_of}
-use Rattle.loop_nest.proofs.ranks.first_new.Given as goal
-
-abbrev pub invariant-loop-position : goal.invariant-loop-position
-invariant-loop-position l =
-    (x : ℕ) → Contains (take l.position-index l.positions) x → 0 < number_of l.numbers x
