@@ -79,7 +79,7 @@ def unreached(words):
 
 
 CASES = [(doubling, count) for count in (8, 10, 12, 14)]
-CASES += [(leaves, count) for count in (1000, 4000, 16000)]
+CASES += [(leaves, count) for count in (1000, 4000, 16000, 16383)]
 CASES += [(table, count) for count in (1000, 8000, 60000)]
 CASES += [(pointers, count) for count in (1000, 4000, 16000)]
 CASES += [(blocks, 1000, calls) for calls in (8, 32, 64)]

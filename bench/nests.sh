@@ -37,7 +37,7 @@ def nests(depth, loops):
     return words + RETURN, headers, count * nest + 22
 
 
-for depth, loops in [(depth, 840) for depth in range(1, 9)] + [(4, loops) for loops in (400, 800, 1600, 3200)]:
+for depth, loops in [(depth, 840) for depth in range(1, 9)] + [(4, loops) for loops in (400, 800, 1600, 3200)] + [(8, loops) for loops in (8000, 16000, 32000)]:
     words, headers, bound = nests(depth, loops)
     # Each loop is named many times: by greater bounds, and once by its own.
     records = [(1, headers[at % len(headers)], BOUND + at // len(headers), 0) for at in range(RECORDS)]
