@@ -15,10 +15,12 @@ use std::alloc::{AllocError, Global};
 use unit_graph::{Graphs, Unit};
 use wcet_io::List;
 
-/// The loop instances of a program, by their contexts and headers, and the scopes of its places.
+/// The loop instances of a program and the scopes of its places.
 #[derive(Debug, Drop)]
 pub struct Instances {
+    /// The instances, by their contexts and the addresses of their headers.
     pub instances: List<LoopInst>,
+    /// For each place in its turn the number of the innermost instance that holds it, or 0.
     pub scopes: Vec<u32>,
 }
 

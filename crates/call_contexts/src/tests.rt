@@ -55,7 +55,6 @@ fn file_of(alloc: Global, words: &[u32], records: &[Record]) -> Result<Vec<u8>, 
     Ok(file)
 }
 
-/// The image of these words.
 pub fn image_of(alloc: Global, words: &[u32], records: &[Record]) -> Result<Image, Fail> {
     let file = file_of(alloc, words, records)?;
     if file.len() > 1_000_000 {
