@@ -21,8 +21,9 @@ most_bytes = 16777216
 abbrev pub least_stack : ℕ
 least_stack = 64
 
--- The bytes above the stack's top that belong to the stack: the caller's area for arguments
--- (System V ABI, MIPS processor supplement).
+-- The bytes above the stack's top that belong to the stack: the caller's area for arguments, in which
+-- a callee may store the arguments that came in registers (System V ABI, MIPS processor supplement).
+-- That it has 64 bytes is this analyser's own choice: the supplement names only a least size.
 abbrev pub area_above : ℕ
 area_above = 64
 

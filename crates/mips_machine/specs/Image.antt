@@ -1,5 +1,6 @@
 -- What a start takes of an image, a profile and the given registers.
-use Rattle.std.specs.Prelude.{◌≡◌, ℕ, ◌+◌, ◌-◌, ◌<◌, List, [], ◌∷◌, ◌++◌, length, map, find, fold, replicate, take, drop, Option, Some, None, option_map, All, true, slice_set, if◌then◌else◌}
+use Rattle.std.specs.Prelude.{◌≡◌, ℕ, ◌+◌, ◌-◌, ◌<◌, Bool, ◌&&◌, List, [], ◌∷◌, ◌++◌, length, map, fold, replicate, take, drop, Option, Some, None, All, true, slice_set, if◌then◌else◌}
+use Rattle.std.specs.List.{list_any}
 use Rattle.cache_config.specs.declared.profile.Profile.{Profile}
 use Rattle.cache_config.specs.declared.profile.Region.{Region as Area}
 use Rattle.cache_config.specs.Limits.{AreApart as AreSpansApart}
@@ -61,11 +62,15 @@ abbrev pub filled_region : Fill → Region → Region
 filled_region fill region =
     record region { bytes = spliced (fill.address - region.start) fill.bytes region.bytes }
 
--- A fill puts its bytes into the region that holds them all.
+-- The region can be written, and all bytes of the fill lie in it.
+abbrev pub takes_fill : Fill → Region → Bool
+takes_fill fill region = is_writable region && covers fill.address (length fill.bytes) region
+
+-- A fill puts its bytes into the region that takes it; where none does, it changes nothing.
 abbrev pub with_fill : Fill → List Region → List Region
 with_fill fill [] = []
 with_fill fill (region ∷ regions) =
-    if covers fill.address (length fill.bytes) region
+    if takes_fill fill region
     then filled_region fill region ∷ regions
     else region ∷ with_fill fill regions
 
@@ -73,10 +78,9 @@ with_fill fill (region ∷ regions) =
 abbrev pub with_fills : List Fill → List Region → List Region
 with_fills fills regions = fold (λ regions fill. with_fill fill regions) regions fills
 
--- A fill lies in one region that can be written.
+-- The bytes of a fill lie in one region that can be written. A fill without bytes may stand anywhere.
 abbrev pub IsFillable : List Region → Fill → Type 0
-IsFillable regions fill =
-    option_map is_writable (find (covers fill.address (length fill.bytes)) regions) ≡ Some true
+IsFillable regions fill = 0 < length fill.bytes → list_any (takes_fill fill) regions ≡ true
 
 -- No address lies in both regions.
 abbrev pub AreApart : Region → Region → Type 0

@@ -101,7 +101,8 @@ impl Machine {
     /// The machine before the first unit at the entry.
     ///
     /// Its memory is the image's segments, the profile's stack and its regions, zero but for the file's
-    /// bytes and the fills, of which a later one holds. Registers 0, 28, 29 and 31 are set (zero, the
+    /// bytes and the fills, of which a later one holds. The bytes of a fill lie in one region that can
+    /// be written; a fill without bytes may stand anywhere. Registers 0, 28, 29 and 31 are set (zero, the
     /// global pointer where the profile has one, the stack's top, the place of return); the others are
     /// the given ones.
     pub fn start(

@@ -6,7 +6,7 @@ ghost use Rattle.mips_decode.specs.State.{Region, State};
 ghost use Rattle.mips_decode.specs.Effect.{Does, Traps, loaded, reg, stored, with_reg};
 ghost use Rattle.mips_decode.specs.Memory.{IsSize};
 ghost use Rattle.mips_decode.specs.Start.{AreRegionsAtStart};
-ghost use Rattle.mips_machine.specs.Image.{HasBytes, HasNoClash, IsFillable, area_of, region_of, regions_of, stack_of, with_fill};
+ghost use Rattle.mips_machine.specs.Image.{HasBytes, HasNoClash, IsFillable, area_of, region_of, regions_of, stack_of, takes_fill, with_fill};
 ghost use Rattle.mips_machine.specs.Places.{IsOnlyPlace, StandsAt};
 
 use crate::fill::Fill;
@@ -41,14 +41,13 @@ impl Model for Memory {
     ghost invariant = { λ m. IsIndexed (spans_of m.regions.items) m.by_address.items };
 }
 
-/// The place of the first region that holds all bytes from an address up to a size.
-fn first_place(regions: &[Region], address: u32, size: u64) -> Option<usize>
-    requires { size < 2 ^ 63 }
-    ensures place { IfSome result (StandsAt (covers address size) regions.now) }
-    ensures none { IfNone result (All (λ region. covers address size region ≡ false) regions.now) }
+/// The place of the first region that can be written and holds all bytes of a fill.
+fn first_place(regions: &[Region], fill: &Fill) -> Option<usize>
+    ensures place { IfSome result (StandsAt (takes_fill fill.now) regions.now) }
+    ensures none { IfNone result (All (λ region. takes_fill fill.now region ≡ false) regions.now) }
 {
     for (place, region) in regions.iter().enumerate() {
-        if region.covers(address, size) {
+        if region.takes(fill) {
             return Some(place);
         }
     }
@@ -128,15 +127,16 @@ impl Memory {
         Some(place)
     }
 
-    /// Puts bytes into the region that holds them all, one that can be written.
+    /// Puts bytes into the region that can be written and holds them all.
+    ///
+    /// A fill without bytes changes nothing, wherever it stands.
     pub fn fill(&mut self, fill: &Fill)
         requires { IsFillable self.old fill.now }
         ensures regions { self.new ≡ with_fill fill.now self.old }
         ensures bytes { All (λ byte. byte < 256) fill.now.bytes }
     {
-        let size = fill.bytes.as_slice().len() as u64;
-        let Some(place) = first_place(&self.regions, fill.address, size) else {
-            unreachable!()
+        let Some(place) = first_place(&self.regions, fill) else {
+            return;
         };
         let region = &mut self.regions[place];
         region.fill(fill);

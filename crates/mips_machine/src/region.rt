@@ -5,7 +5,7 @@ ghost use Rattle.elf_mips.specs.Segments.{EndsLow, IsFilled};
 ghost use Rattle.mips_decode.specs.Effect.{number_in, region_with};
 ghost use Rattle.mips_decode.specs.Memory.{IsSize};
 ghost use Rattle.mips_decode.specs.State.{covers, holds_code, is_writable, return_address, word_at};
-ghost use Rattle.mips_machine.specs.Image.{HasBytes, filled_region, region_of, spliced, zeros_at};
+ghost use Rattle.mips_machine.specs.Image.{HasBytes, filled_region, region_of, spliced, takes_fill, zeros_at};
 
 use crate::fill::Fill;
 use elf_mips::Segment;
@@ -125,6 +125,13 @@ impl Region {
     {
         let at = (access.address - self.start) as usize;
         mips_decode::number_at(&self.bytes, access.size, at)
+    }
+
+    /// Whether the region can be written and holds all bytes of a fill.
+    pub fn takes(&self, fill: &Fill) -> bool
+        ensures { result ≡ takes_fill fill.now self.now }
+    {
+        self.is_writable() && self.covers(fill.address, fill.bytes.as_slice().len() as u64)
     }
 
     /// Puts bytes over those from an address on.

@@ -4,7 +4,7 @@ use Rattle.wcet_io.specs.Shelved.{Shelved}
 use Rattle.wcet_io.specs.Stored.{named}
 use Rattle.wcet_io.specs.declared.memory_shelf.MemShelf.TheInside.{Inside}
 
--- all fields but the allocator
+-- All fields but the allocator.
 abbrev pub shelf_of : Inside → Shelved
 shelf_of s = record {
   step = s.step;

@@ -3,7 +3,7 @@ use Rattle.std.specs.Prelude.{◌<◌, ◌≤◌, vec_len, vec_capacity}
 use Rattle.wcet_io.specs.Sunk.{Sunk}
 use Rattle.wcet_io.specs.declared.memory_sink.MemSink.TheInside.{Inside}
 
--- all fields
+-- All fields.
 abbrev pub sink_of : Inside → Sunk
 sink_of s = record {
   step = s.step;
@@ -14,7 +14,7 @@ sink_of s = record {
   faults = s.faults;
 }
 
--- the vector has the room from the start on, so that a put takes no memory
+-- The vector has the room from the start on, so that a put takes no memory.
 pub record KeepsRoom (s : Inside) : Type 0 where
   pub positive : 0 < s.step
   pub within : vec_len s.bytes ≤ s.room

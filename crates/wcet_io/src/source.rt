@@ -21,8 +21,10 @@ pub trait Shelf {
 
     /// Places bytes of the file, from the byte `at` on, at the buffer's front; answers how many.
     ///
-    /// `Ok(0)` means the file's end, and a file that isn't there is a `Failed`. What stands in the
-    /// buffer behind the placed bytes is left open.
+    /// Where the name's contents are told, `Ok(0)` comes exactly where they end at or before the byte
+    /// `at`. What comes at a name whose contents aren't told is up to the shelf; where no file has the
+    /// name it should be `Failed`, since `Ok(0)` reads as an empty file. What stands in the buffer
+    /// behind the placed bytes is left open.
     fn piece(&mut self, name: &str, at: u64, buf: &mut [u8]) -> Result<usize, Failed>
         requires { 0 < length buf.old }
 

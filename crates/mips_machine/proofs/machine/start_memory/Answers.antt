@@ -19,7 +19,6 @@ loop-fill-preserved c =
     let i = c.loop-fill.fill-index in
     let fill = c.fill-item.result in
     let inside : i < length fills = omega arith in
-    let fits : IsFillable given fill = subst (IsFillable given) (sym c.fill-item.is) (c.requires.fills i fill inside) in
     rw (take_more fills i fill inside, ← c.fill-item.is)
-    (FillsSoFar-more given c.loop-fill.memory c.fill.new.self (take i fills) fill c.loop-fill.invariant fits
+    (FillsSoFar-more given c.loop-fill.memory c.fill.new.self (take i fills) fill c.loop-fill.invariant
     c.fill.ensures.bytes c.fill.ensures.regions)
