@@ -14,13 +14,12 @@ use Rattle.net_model.specs.Onward.{returns}
 use Rattle.net_model.specs.Targets.{unit_at}
 use Rattle.net_model.specs.declared.unit.CodeUnit.{CodeUnit}
 use Rattle.net_model.specs.declared.unit.Content.TheVariants.{Unit as Stands}
-use Rattle.net_model.proofs.Contents.{IsFetched-unit}
-use Rattle.net_model.proofs.Followed.{unit-content}
+use Rattle.net_model.proofs.Contents.{IsFetched-unit, unit-content}
 use Rattle.unit_graph.specs.Graphs.{IsGraph, IsGraphIn, IsNode}
 use Rattle.unit_graph.specs.declared.graph.Graph.{Graph}
 use Rattle.unit_graph.specs.declared.graph.Graphs.{Graphs}
 use Rattle.unit_graph.specs.declared.node.Unit.{Unit as Node}
-use Rattle.unit_graph.proofs.LowWords.{word_low}
+use Rattle.code_units.proofs.LowWords.{word_low}
 use Rattle.call_contexts.specs.Arcs.{ComesBack, HasCallTo, HasReturnTo, IsCallTo}
 use Rattle.call_contexts.specs.Layout.{HasGraph, HasNode, IsLaidOut, IsMadeAs, IsSpot}
 use Rattle.call_contexts.specs.Spots.{HasNumber, IsLaidProgram, IsNumberAt}

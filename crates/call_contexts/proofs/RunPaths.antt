@@ -32,8 +32,7 @@ use Rattle.net_model.specs.Onward.{returns}
 use Rattle.net_model.specs.Places.{IsPlaceOf}
 use Rattle.net_model.specs.Runs.{GoesAlong, IsKeptRun, StandsAt, stand_of, stands}
 use Rattle.net_model.specs.Targets.{targets_at, unit_at}
-use Rattle.net_model.proofs.Contents.{IsFetched-unit}
-use Rattle.net_model.proofs.Followed.{unit-content}
+use Rattle.net_model.proofs.Contents.{IsFetched-unit, unit-content}
 use Rattle.net_model.proofs.Steps.{IsDoneBy, IsWayOn, unit-goes}
 use Rattle.net_model.proofs.Zero.{IsZero}
 use Rattle.call_contexts.proofs.NetItems.{place-positive}

@@ -1,9 +1,9 @@
 //! Tests of the operations' edges, from the rules of the MIPS I manual.
 
 use crate::{
-    CostClass, LinkKind, LoadOp, Reg, Regs, StoreOp, Touched, address_of, apply, cost_class,
-    decide, decode, load_touched, load_value, number_at, put_number, reads, store_touched,
-    store_value, writes,
+    BranchOp, CostClass, LinkKind, LoadOp, Reg, Regs, StoreOp, Touched, address_of, apply,
+    branch_links, branch_target, cost_class, decide, decode, jump_target, load_touched, load_value,
+    number_at, put_number, reads, store_touched, store_value, writes,
 };
 
 /// A register by its number.
@@ -315,6 +315,15 @@ fn transfers_go_and_link(rt: HostRuntime) {
         let found = (way.next, regs.get(r(31)), way.kind);
         assert_eq!(rt; found, (next, link, kind), "{word:08x} at {s:08x}");
     }
+}
+
+#[test]
+fn targets_count_from_the_slot(rt: HostRuntime) {
+    // By 3 words; then at 0FFFFFFC, whose slot is the first word of the next 256 MiB, by -16 words.
+    assert_eq!(rt; branch_target(0x0040_0000, 3), 0x0040_0010);
+    assert_eq!(rt; branch_target(0x0fff_fffc, 0xfff0), 0x0fff_ffc0);
+    assert_eq!(rt; jump_target(0x0fff_fffc, 0x0123_4567), 0x148d_159c);
+    assert!(rt; branch_links(BranchOp::Bgezal) && !branch_links(BranchOp::Bgez));
 }
 
 #[test]

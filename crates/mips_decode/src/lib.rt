@@ -28,4 +28,4 @@ pub use memory::{
     address_of, load_touched, load_value, number_at, put_number, store_touched, store_value,
 };
 pub use step::{Regs, Touched, TrapKind};
-pub use transfer::{LinkKind, Way, decide, is_transfer};
+pub use transfer::{LinkKind, Way, branch_links, branch_target, decide, is_transfer, jump_target};

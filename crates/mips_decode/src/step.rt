@@ -22,7 +22,7 @@ pub struct Touched {
     pub store: bool,
 }
 
-/// The registers: the 32 general ones, of which register 0 is always 0, and HI and LO.
+/// The registers: the 32 general ones, and HI and LO. No instruction writes register 0.
 #[derive(Clone, Copy, Debug, PartialEq, Eq)]
 pub struct Regs {
     pub general: [u32; 32],

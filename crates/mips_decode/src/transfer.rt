@@ -31,16 +31,16 @@ fn link_address(pc: u32) -> u32
     pc.wrapping_add(8)
 }
 
-/// A branch's target.
-fn branch_target(pc: u32, offset: u16) -> u32
+/// The target of the branch at `pc`: the address of its slot and four times its signed offset.
+pub fn branch_target(pc: u32, offset: u16) -> u32
     ensures { result ≡ branch_target pc offset }
 {
     pc.wrapping_add(4)
         .wrapping_add(sign_extended(offset).wrapping_mul(4))
 }
 
-/// The target of J and JAL.
-fn jump_target(pc: u32, index: u32) -> u32
+/// The target of J and JAL at `pc`: four times the index, with the top four bits of the address of the slot.
+pub fn jump_target(pc: u32, index: u32) -> u32
     requires slot { pc + 4 < 2 ^ 32 }
     requires index { index < 2 ^ 26 }
     ensures { result ≡ jump_target pc index }
@@ -64,8 +64,8 @@ fn is_taken(op: BranchOp, s: u32, t: u32) -> bool
     }
 }
 
-/// Whether a branch links.
-fn branch_links(op: BranchOp) -> bool
+/// Whether a branch links, taken or not: BLTZAL and BGEZAL.
+pub fn branch_links(op: BranchOp) -> bool
     ensures { result ≡ branch_links op }
 {
     match op {

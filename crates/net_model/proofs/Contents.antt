@@ -1,15 +1,19 @@
--- The words of a unit are the ones that the machine fetches.
+-- What a unit at an address of a program says: its words are the ones that the machine fetches.
 use Rattle.std.proofs.Common.{◌≡◌, ℕ, ◌+◌, Bool, true, false, cond, Option, Some, None, is_some, refl, subst}
+use Rattle.std.specs.Prelude.{◌&&◌, if◌then◌else◌}
 use Rattle.elf_mips.specs.declared.image.Image.{Image}
 use Rattle.elf_mips.specs.Segments.{code_at, is_writable_word}
 use Rattle.mips_decode.specs.declared.instr.Instr.{Instr}
 use Rattle.mips_decode.specs.declared.instr.Instr.TheVariants.{Three, Shift, HiLo, MulDiv, Imm, Lui, Load, Store, Branch, Jump, JumpReg, JumpLink, Stop}
 use Rattle.mips_decode.specs.declared.step.Regs.{Regs}
+use Rattle.mips_decode.specs.Records.{needs_target}
 use Rattle.mips_decode.specs.Transfer.{decided}
 use Rattle.mips_decode.specs.Step.{Fetched, Found, Missing, fetched}
-use Rattle.net_model.specs.declared.unit.CodeKind.TheVariants.{WritableCode, TransferInSlot}
+use Rattle.net_model.specs.declared.unit.CodeKind.TheVariants.{LinkRegister, TransferInSlot, UnknownTarget, WritableCode}
 use Rattle.net_model.specs.declared.unit.CodeUnit.{CodeUnit}
+use Rattle.net_model.specs.declared.unit.Content.{Content}
 use Rattle.net_model.specs.declared.unit.Content.TheVariants.{Unit as Stands, Fault}
+use Rattle.net_model.specs.Targets.{is_none, linked_content, links_elsewhere, targets_at, unit_at}
 use Rattle.net_model.specs.Units.{Word, Holds, Lacks, content_at, content_of, is_transfer, known, with_slot, word_at}
 
 -- What the fetches say of a unit: of its instruction, and of its slot where it has one.
@@ -66,6 +70,21 @@ IsFetched-unit image address unit stands =
     content-fetched image address unit (word_at image address)
     (λ instr there. word-fetched (is_writable_word image.segments address) (fetched (code_at image.segments) address) instr there)
     stands
+
+-- A unit of the program stands at its address, whatever is recorded.
+linked-stands : (image : Image) (address : ℕ) (content : Content) (unit : CodeUnit) → linked_content image address content ≡ Stands unit → content ≡ Stands unit
+linked-stands image address (Fault kind place) unit e = cc
+linked-stands image address (Stands other) unit e =
+    by_tests (needs_target other.instr && is_none (targets_at image address)) (links_elsewhere other.instr) e where
+      by_tests : (b c : Bool) →
+          (if b then Fault UnknownTarget address else if c then Fault LinkRegister address else Stands other) ≡ Stands unit →
+          Stands other ≡ Stands unit
+      by_tests true c e = cc
+      by_tests false true e = cc
+      by_tests false false e = e
+
+pub unit-content : (image : Image) (address : ℕ) (unit : CodeUnit) → unit_at image address ≡ Stands unit → content_at image address ≡ Stands unit
+unit-content image address unit stands = linked-stands image address (content_at image address) unit stands
 
 -- Just the jumps and branches decide a way.
 pub is_some-decided : (instr : Instr) (pc : ℕ) (regs : Regs) → is_some (decided instr pc regs) ≡ is_transfer instr

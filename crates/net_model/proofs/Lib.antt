@@ -1,7 +1,5 @@
 -- Laws of units: what a step of the machine does at one, what functions reach, and when two images have the same code.
 pub mod Functions
-pub mod Plain
-pub mod Followed
 pub mod SameCode
 pub mod SameNets
 pub mod Contents

@@ -20,8 +20,7 @@ use Rattle.net_model.specs.Units.{is_transfer}
 use Rattle.net_model.specs.Flow.{called, callees, own_ways, ways_on}
 use Rattle.net_model.specs.Onward.{is_stop, returns, stops}
 use Rattle.net_model.specs.Targets.{targets_at, unit_at}
-use Rattle.net_model.proofs.Contents.{HasSlot, IsFetched, IsFetched-unit, is_some-decided}
-use Rattle.net_model.proofs.Followed.{unit-content}
+use Rattle.net_model.proofs.Contents.{HasSlot, IsFetched, IsFetched-unit, is_some-decided, unit-content}
 use Rattle.net_model.proofs.Zero.{IsEffect, IsZero, effect-takes, touch}
 use Rattle.net_model.proofs.Ways.{GoesItsWay, decided-goes, decided-zero}
 

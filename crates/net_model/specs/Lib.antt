@@ -6,8 +6,6 @@ pub mod Flow
 pub mod Functions
 pub mod Faults
 pub mod Loops
-pub mod Reached
-pub mod Ways
 pub mod Contexts
 pub mod Places
 pub mod Instances

@@ -1,10 +1,10 @@
--- How units go on: the addresses at which the next unit may stand.
+-- What branches and units may do: which branches are taken or passed, and which units stop, return or load.
 use Rattle.std.specs.Prelude.{ℕ, ◌+◌, ◌==◌, ◌&&◌, ◌||◌, Bool, true, false, not, List, [], ◌∷◌, ◌++◌, Option, Some, None, if◌then◌else◌}
 use Rattle.mips_decode.specs.declared.instr.BranchOp.{BranchOp}
 use Rattle.mips_decode.specs.declared.instr.BranchOp.TheVariants.{Beq, Bne, Blez, Bgtz, Bltz, Bgez, Bltzal, Bgezal}
 use Rattle.mips_decode.specs.declared.instr.Instr.{Instr}
-use Rattle.mips_decode.specs.declared.instr.Instr.TheVariants.{Branch, Jump, JumpReg, JumpLink, Load, Stop}
-use Rattle.mips_decode.specs.Transfer.{branch_links, branch_target, jump_target}
+use Rattle.mips_decode.specs.declared.instr.Instr.TheVariants.{Branch, JumpReg, Load, Stop}
+use Rattle.mips_decode.specs.Transfer.{branch_links, branch_target}
 use Rattle.net_model.specs.declared.unit.CodeUnit.{CodeUnit}
 
 -- A register equals itself, and register 0 is zero: such a comparison is known beforehand.
@@ -39,25 +39,9 @@ is_stop_slot (Some slot) = is_stop slot
 abbrev pub stops : CodeUnit → Bool
 stops unit = is_stop unit.instr || is_stop_slot unit.slot
 
--- An instruction that may call: JAL, JALR, and BLTZAL or BGEZAL that may be taken.
-abbrev pub is_call : Instr → Bool
-is_call (Branch op rs rt offset) = branch_links op && may_be_taken op rs rt
-is_call (Jump link index) = link
-is_call (JumpLink rd rs) = true
-is_call instr = false
-
--- JR of another register than 31 goes to the targets that are recorded for it.
-abbrev pub is_indirect : Instr → Bool
-is_indirect (JumpReg rs) = not (rs == 31)
-is_indirect instr = false
-
 abbrev pub is_return : Instr → Bool
 is_return (JumpReg rs) = rs == 31
 is_return instr = false
-
--- A unit may call.
-abbrev pub calls : CodeUnit → Bool
-calls unit = not (stops unit) && is_call unit.instr
 
 -- A return unit: `jr $31`.
 abbrev pub returns : CodeUnit → Bool
@@ -68,19 +52,6 @@ abbrev pub branch_ways : BranchOp → (rs rt offset address : ℕ) → List ℕ
 branch_ways op rs rt offset address =
     (if may_be_taken op rs rt then branch_target address offset ∷ [] else [])
     ++ (if may_be_passed op rs rt then (address + 8) ∷ [] else [])
-
--- Where an instruction at an address goes on: a call isn't followed, nor is an indirect jump; a return goes to its caller.
-abbrev pub ways_of : Instr → ℕ → List ℕ
-ways_of (Branch op rs rt offset) address = branch_ways op rs rt offset address
-ways_of (Jump link index) address = jump_target address index ∷ []
-ways_of (JumpReg rs) address = []
-ways_of (JumpLink rd rs) address = []
-ways_of instr address = (address + 4) ∷ []
-
--- The onward units of a unit at an address. A unit that stops has none, and one that may call isn't followed.
-abbrev pub onward : CodeUnit → ℕ → List ℕ
-onward unit address =
-    if stops unit || is_call unit.instr then [] else ways_of unit.instr address
 
 -- BLTZAL or BGEZAL that may be not taken.
 abbrev pub is_link_passed : Instr → Bool

@@ -17,7 +17,7 @@ pub enum CodeKind {
     LinkRegister,
     /// A function calls itself, directly or through others. The place is its entry.
     Recursion,
-    /// A unit lies on a cycle that isn't entered at one header alone. The place is its address.
+    /// A unit lies on a cycle that has no back arc. The place is its address.
     Irreducible,
     /// A loop has no recorded bound. The place is its header's address.
     NoBound,

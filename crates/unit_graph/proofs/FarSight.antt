@@ -5,10 +5,10 @@ use Rattle.std.proofs.lemmas.List.Elements.{All-contains}
 use Rattle.elf_mips.specs.declared.image.Image.{Image}
 use Rattle.net_model.specs.declared.unit.Content.{Content}
 use Rattle.net_model.specs.declared.unit.Content.TheVariants.{Unit as Stands, Fault}
-use Rattle.unit_graph.specs.Graphs.{IsSetOf}
+use Rattle.code_units.specs.Sets.{IsSetOf}
 use Rattle.unit_graph.specs.Rows.{IsRow, MayLead, MayLeadAt, calls_of_content, ways_of_content}
 use Rattle.unit_graph.specs.Search.{Sees}
-use Rattle.unit_graph.specs.Ways.{IfPlaced}
+use Rattle.code_units.specs.Ways.{IfPlaced}
 use Rattle.unit_graph.specs.declared.rows.Row.{Row}
 use Rattle.unit_graph.proofs.Seen.{Sees-same, Sees-then}
 

@@ -7,7 +7,6 @@ use Rattle.net_model.specs.declared.unit.CodeKind.{CodeKind}
 use Rattle.net_model.specs.declared.unit.Content.{Content}
 use Rattle.net_model.specs.declared.unit.Content.TheVariants.{Unit as Stands, Fault}
 use Rattle.unit_graph.specs.declared.first.Offence.{Offence}
-use Rattle.unit_graph.specs.declared.reached.Reached.{Reached}
 use Rattle.unit_graph.specs.Firsts.{Follows, IsAmong, IsFaultOf, IsNoEarlier}
 
 -- What isn't before a fault that isn't before another one isn't before that one.
@@ -30,27 +29,16 @@ Follows-none first (Stands unit) follows = tt
 Follows-none first (Fault kind place) follows = absurd follows
 
 -- The first fault with that of one more address.
-pub IsAmong-more : (first result : Option Offence) (reached : List Reached) (one : Reached) →
-    IsAmong first reached → (result ≡ first) ⊎ IsFaultOf result one.content →
-    IsAmong result (reached ++ one ∷ [])
-IsAmong-more first None reached one among either = tt
-IsAmong-more None (Some result) reached one among (inl e) = cc
-IsAmong-more (Some first) (Some result) reached one among (inl e) =
-    let same : first ≡ result = cc in (
-      among.0,
-      Contains-append_left reached (one ∷ []) among.0 among.1,
-      subst (λ (offence : Offence). among.0.content ≡ Fault offence.kind offence.place) same among.2,
-    )
-IsAmong-more first (Some result) reached one among (inr here) = (one, Contains-push reached one, here)
-
--- An item that a mapped list's item comes from.
-pub preimage : {X : Type 0} (f : X → ℕ) (xs : List X) (y : ℕ) → Contains (map f xs) y →
-    (x : X) × Contains xs x × (f x ≡ y)
-preimage f [] y (k, inside, e) = absurd (omega arith)
-preimage f (x ∷ xs) y (zero, inside, e) = (x, (0, omega arith, refl), e)
-preimage f (x ∷ xs) y (suc k, inside, e) =
-    let rest = preimage f xs y (k, omega arith, e) in
-    (rest.0, Contains-append_right (x ∷ []) xs rest.0 rest.1, rest.2)
+pub IsAmong-more : (first result : Option Offence) (contents : List Content) (one : Content) →
+    IsAmong first contents → (result ≡ first) ⊎ IsFaultOf result one → IsAmong result (contents ++ one ∷ [])
+IsAmong-more first None contents one among either = tt
+IsAmong-more None (Some result) contents one among (inl e) = cc
+IsAmong-more (Some first) (Some result) contents one among (inl e) =
+    let same : first ≡ result = cc in
+    subst (λ (offence : Offence). Contains (contents ++ one ∷ []) (Fault offence.kind offence.place)) same
+    (Contains-append_left contents (one ∷ []) (Fault first.kind first.place) among)
+IsAmong-more first (Some result) contents one among (inr here) =
+    subst (Contains (contents ++ one ∷ [])) here (Contains-push contents one)
 
 -- One more item.
 pub one_more : {X : Type 0} (xs : List X) (i : ℕ) (one : X) → i < length xs → one ≡ get_or xs i one →
@@ -58,12 +46,8 @@ pub one_more : {X : Type 0} (xs : List X) (i : ℕ) (one : X) → i < length xs 
 one_more {X} xs i one l e =
     take_more xs i one l ∙ ap (λ (r : X). take i xs ++ r ∷ []) (sym e)
 
-pub Follows-more : (first result : Option Offence) (reached : List Reached) (one : Reached) →
-    All (λ (r : Reached). Follows first r.content) reached →
-    ((content : Content) → Follows first content → Follows result content) → Follows result one.content →
-    All (λ (r : Reached). Follows result r.content) (reached ++ one ∷ [])
-Follows-more first result reached one all old new =
-    All-push (λ (r : Reached). Follows result r.content) reached one
-    (All-weaker (λ (r : Reached). Follows first r.content) (λ (r : Reached). Follows result r.content)
-    (λ r h. old r.content h) reached all)
-    new
+pub Follows-more : (first result : Option Offence) (contents : List Content) (one : Content) →
+    All (Follows first) contents → ((content : Content) → Follows first content → Follows result content) →
+    Follows result one → All (Follows result) (contents ++ one ∷ [])
+Follows-more first result contents one all old new =
+    All-push (Follows result) contents one (All-weaker (Follows first) (Follows result) old contents all) new

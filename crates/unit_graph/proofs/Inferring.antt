@@ -16,7 +16,7 @@ use Rattle.unit_graph.specs.Rows.{AreRows, IsRow, calls_of_content, ways_of_cont
 use Rattle.unit_graph.specs.Search.{Sees}
 use Rattle.unit_graph.specs.declared.inference.Rule.{Rule}
 use Rattle.unit_graph.specs.declared.rows.Row.{Row}
-use Rattle.unit_graph.proofs.Ranging.{AreAt}
+use Rattle.code_units.proofs.Ranging.{AreAt}
 use Rattle.unit_graph.proofs.RuleLists.{in_none}
 
 pub AreRules-sorted : (rows : List Row) (items sorted : List Rule) → Adds (IsAnyRule rows) [] items → IsPermutation items sorted →

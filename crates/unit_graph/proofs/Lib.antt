@@ -2,7 +2,6 @@
 pub mod Behind
 pub mod Calling
 pub mod Clean
-pub mod Contained
 pub mod Drawing
 pub mod Ends
 pub mod Exploring
@@ -11,13 +10,9 @@ pub mod Flowing
 pub mod Foremost
 pub mod Growing
 pub mod Inferring
-pub mod LowWords
-pub mod Naming
 pub mod Noting
 pub mod Offending
 pub mod Others
-pub mod PlainSearch
-pub mod Ranging
 pub mod Recurring
 pub mod Returning
 pub mod RowPlaces

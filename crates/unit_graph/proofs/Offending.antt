@@ -17,11 +17,10 @@ use Rattle.net_model.specs.Functions.{IsRecursive}
 use Rattle.net_model.specs.Targets.{is_none, linked_content, links_elsewhere, targets_at, unit_at}
 use Rattle.net_model.specs.Units.{Holds, Lacks, Word, content_at, content_of, is_transfer, known, with_slot, word_at}
 use Rattle.unit_graph.specs.declared.first.Offence.{Offence}
-use Rattle.unit_graph.specs.declared.reached.Reached.{Reached}
 use Rattle.unit_graph.specs.Firsts.{Follows, IsAmong, IsFaulty, IsFirstFaulty}
 use Rattle.unit_graph.specs.Graphs.{AreJust}
-use Rattle.unit_graph.specs.Program.{described}
 use Rattle.unit_graph.specs.Recursion.{IsFirstRecursive}
+use Rattle.code_units.proofs.Lists.{Contains-map, preimage}
 
 -- No unit has a fault of a kind that speaks of functions or loops.
 abbrev IsLowWord : Word → Type 0
@@ -69,46 +68,34 @@ pub unit_rank : (image : Image) (address : ℕ) (kind : CodeKind) (place : ℕ) 
 unit_rank image address kind place e =
     subst IsLow e (linked_by image address (content_at image address) (content_by image address (word_at image address) (word_low image address)))
 
-All-from_map : (P : Reached → Type 0) (f : ℕ → Reached) (xs : List ℕ) → All P (map f xs) → All (λ x. P (f x)) xs
-All-from_map P f xs all k d l =
-    subst P (get_or-map f xs k d (f d) l) (all k (f d) (omega (arith, length-map xs f)))
-
 -- What stands at the addresses is listed.
-follows : (image : Image) (entry : ℕ) (code : List ℕ) (contents : List Reached) (first : Option Offence) (kind : CodeKind) (place : ℕ) →
-    AreJust (IsCode image entry) code → contents ≡ map (described image) code →
-    All (λ (r : Reached). Follows first r.content) contents → IsFaulty image entry kind place → Follows first (Fault kind place)
+follows : (image : Image) (entry : ℕ) (code : List ℕ) (contents : List Content) (first : Option Offence) (kind : CodeKind) (place : ℕ) →
+    AreJust (IsCode image entry) code → contents ≡ map (unit_at image) code →
+    All (Follows first) contents → IsFaulty image entry kind place → Follows first (Fault kind place)
 follows image entry code contents first kind place are e all is =
-    let (k, inside, same) = are.whole is.address is.code in
-    let at = All-contains (λ address. Follows first (unit_at image address)) code is.address (each code (subst (All (λ (r : Reached). Follows first r.content)) e all)) (k, inside, same) in
-    subst (Follows first) is.faulty at
-  where
-    each : (some : List ℕ) → All (λ (r : Reached). Follows first r.content) (map (described image) some) →
-        All (λ address. Follows first (unit_at image address)) some
-    each some all = All-from_map (λ (r : Reached). Follows first r.content) (described image) some all
+    subst (Follows first) is.faulty
+    (All-contains (Follows first) contents (unit_at image is.address) all
+    (subst (λ (some : List Content). Contains some (unit_at image is.address)) (sym e)
+    (Contains-map (unit_at image) code is.address (are.whole is.address is.code))))
 
 -- Each item of a list of contents is that of an address of the code.
-pub IsFirstFaulty-found : (image : Image) (entry : ℕ) (code : List ℕ) (contents : List Reached) (first : Option Offence) →
-    AreJust (IsCode image entry) code → contents ≡ map (described image) code → IsAmong first contents →
-    All (λ (r : Reached). Follows first r.content) contents → IsFirstFaulty image entry first
+pub IsFirstFaulty-found : (image : Image) (entry : ℕ) (code : List ℕ) (contents : List Content) (first : Option Offence) →
+    AreJust (IsCode image entry) code → contents ≡ map (unit_at image) code → IsAmong first contents →
+    All (Follows first) contents → IsFirstFaulty image entry first
 IsFirstFaulty-found image entry code contents None are e among all =
     λ kind place is. follows image entry code contents None kind place are e all is
 IsFirstFaulty-found image entry code contents (Some offence) are e among all = (
-  record {
-    address = among.0.address;
-    code = here.0;
-    faulty = sym here.1 ∙ among.2;
-  },
+  record { address = from.0; code = are.sound from.0 from.1; faulty = from.2 },
   λ kind place is. follows image entry code contents (Some offence) kind place are e all is,
 )
   where
-    here : IsCode image entry among.0.address × (among.0.content ≡ unit_at image among.0.address)
-    here =
-        All-contains (λ (r : Reached). IsCode image entry r.address × (r.content ≡ unit_at image r.address)) contents among.0
-        (subst (All (λ (r : Reached). IsCode image entry r.address × (r.content ≡ unit_at image r.address))) (sym e)
-        (All-map (λ (r : Reached). IsCode image entry r.address × (r.content ≡ unit_at image r.address)) (described image) code
-        (All-weaker (Contains code) (λ address. IsCode image entry address × (unit_at image address ≡ unit_at image address))
-        (λ address h. (are.sound address h, refl)) code (All-contains_itself code))))
-        among.1
+    fault : Content
+    fault = Fault offence.kind offence.place
+
+    from : (address : ℕ) × Contains code address × (unit_at image address ≡ fault)
+    from =
+        preimage (unit_at image) code fault
+        (subst (λ (some : List Content). Contains some fault) e among)
 
 -- An offender of an early kind is a unit's.
 early : (image : Image) (entry : ℕ) (kind : CodeKind) (place : ℕ) → rank kind < 5 → Offends image entry kind place → IsFaulty image entry kind place

@@ -8,8 +8,8 @@ use Rattle.unit_graph.specs.Rows.{AreRows, HasRow, IsRow, MayLeadAt, Rise}
 use Rattle.unit_graph.specs.Search.{AreLed, begins, goes}
 use Rattle.unit_graph.specs.declared.rows.Row.{Row}
 use Rattle.unit_graph.proofs.FarSight.{far_by}
-use Rattle.unit_graph.proofs.Foremost.{preimage}
-use Rattle.unit_graph.proofs.Naming.{Contains-map}
+use Rattle.code_units.proofs.Lists.{preimage}
+use Rattle.code_units.proofs.Lists.{Contains-map}
 
 abbrev address_of : Row → ℕ
 address_of row = row.address

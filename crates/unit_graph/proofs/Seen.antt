@@ -15,9 +15,6 @@ alone : (a x : ℕ) → Contains (a ∷ []) x → a ≡ x
 alone a x (zero, inside, e) = e
 alone a x (suc k, inside, e) = absurd (omega arith)
 
-itself : (a : ℕ) → Contains (a ∷ []) a
-itself a = (0, omega arith, refl)
-
 -- What is in a set.
 there : (s : BTreeSet ℕ) (x : ℕ) → contains nat_cmp s x ≡ true → Contains s.keys x
 there s x h = (btree_set_contains_iff nat_cmp_total exact_unsigned s x).0 h
@@ -152,19 +149,12 @@ Sees-more xs y seen waiting seen1 waiting1 seen2 waiting2 f g =
     (λ x h. Contains-push_cases xs y x h)
     (Sees-then (Contains xs) (λ x. y ≡ x) seen waiting seen1 waiting1 seen2 waiting2 f g)
 
--- No address of an empty list, and the one of a list.
+-- No address of an empty list.
 pub Sees-nobody : (seen waiting : List ℕ) → Sees (Contains []) seen waiting seen waiting
 Sees-nobody seen waiting = Sees-none (Contains []) seen waiting (λ x h. absurd (in_none x h)) (λ x h. absurd (in_none x h))
   where
     in_none : (x : ℕ) → Contains [] x → ⊥
     in_none x (k, inside, same) = omega arith
-
-pub Sees-one : (address : ℕ) (seen waiting seen1 waiting1 : List ℕ) → Sees (λ x. address ≡ x) seen waiting seen1 waiting1 →
-    Sees (Contains (address ∷ [])) seen waiting seen1 waiting1
-Sees-one address seen waiting seen1 waiting1 f =
-    Sees-same (λ x. address ≡ x) (Contains (address ∷ [])) seen waiting seen1 waiting1
-    (λ x h. subst (Contains (address ∷ [])) h (itself address))
-    (λ x h. alone address x h) f
 
 -- What `insert` says of an address that isn't new.
 pub had_by : (added held : Bool) → added ≡ not held → added ≡ false → held ≡ true

@@ -7,7 +7,6 @@ use Rattle.elf_mips.specs.declared.image.Image.{Image}
 use Rattle.net_model.specs.Faults.{IsCode, rank}
 use Rattle.net_model.specs.Targets.{unit_at}
 use Rattle.unit_graph.specs.declared.first.Offence.{Offence}
-use Rattle.unit_graph.specs.declared.reached.Reached.{Reached}
 
 -- A fault of this kind and place doesn't come before the offence: its kind is a later one, or it is of
 -- the same rank and its place isn't a lesser one.
@@ -27,11 +26,10 @@ abbrev pub IsFaultOf : Option Offence → Content → Type 0
 IsFaultOf None content = ⊥
 IsFaultOf (Some offence) content = content ≡ Fault offence.kind offence.place
 
--- The first fault, if there is one, is one of the faults.
-abbrev pub IsAmong : Option Offence → List Reached → Type 0
-IsAmong None reached = Unit {0}
-IsAmong (Some offence) reached =
-    (r : Reached) × Contains reached r × (r.content ≡ Fault offence.kind offence.place)
+-- The first fault, if there is one, is that of some of the contents.
+abbrev pub IsAmong : Option Offence → List Content → Type 0
+IsAmong None contents = Unit {0}
+IsAmong (Some offence) contents = Contains contents (Fault offence.kind offence.place)
 
 -- An address that some function reaches has a fault of this kind at this place.
 pub record IsFaulty (image : Image) (entry : ℕ) (kind : CodeKind) (place : ℕ) : Type 0 where

@@ -14,12 +14,6 @@ use Rattle.unit_graph.specs.declared.node.Unit.{Unit as Node}
 use Rattle.unit_graph.specs.declared.graph.Graph.{Graph}
 use Rattle.unit_graph.specs.declared.graph.Graphs.{Graphs}
 
--- The numbers of a list, rising, each once.
-pub record IsSetOf (given listed : List ℕ) : Type 0 where
-  pub rising : AllPairs (λ (a b : ℕ). a < b) listed
-  pub sound : All (Contains given) listed
-  pub whole : All (Contains listed) given
-
 -- Just these numbers, rising, each once.
 pub record AreJust (these : ℕ → Type 0) (listed : List ℕ) : Type 0 where
   pub rising : AllPairs (λ (a b : ℕ). a < b) listed

@@ -1,5 +1,4 @@
 -- What the graph of a program's functions says.
-pub mod Contents
 pub mod Firsts
 pub mod Flow
 pub mod Graphs
@@ -9,5 +8,3 @@ pub mod Program
 pub mod Recursion
 pub mod Rows
 pub mod Search
-pub mod Targets
-pub mod Ways

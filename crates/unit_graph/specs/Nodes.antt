@@ -3,15 +3,9 @@ use Rattle.std.specs.Prelude.{◌≡◌, ℕ, List, Contains, is_some}
 use Rattle.net_model.specs.declared.unit.CodeUnit.{CodeUnit}
 use Rattle.net_model.specs.Onward.{is_link_passed, load_of, returns}
 use Rattle.unit_graph.specs.declared.node.Unit.{Unit as Node}
-use Rattle.unit_graph.specs.declared.reached.Reached.{Reached}
 use Rattle.unit_graph.specs.declared.rows.Row.{Row}
 use Rattle.unit_graph.specs.Flow.{Follows}
 use Rattle.unit_graph.specs.Graphs.{AreJust}
-use Rattle.unit_graph.specs.Ways.{IfPlaced}
-
--- Where a unit stands at the address, it is placed there.
-abbrev pub IsSound : Reached → Type 0
-IsSound r = IfPlaced r.content r.address
 
 -- The node of a row's unit.
 pub record IsNodeOf (returning : List ℕ) (row : Row) (unit : CodeUnit) (node : Node) : Type 0 where

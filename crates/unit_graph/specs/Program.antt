@@ -3,7 +3,6 @@ use Rattle.std.specs.Prelude.{◌≡◌, ℕ, ◌<◌, ◌⊎◌, List, ◌++◌
 use Rattle.elf_mips.specs.declared.image.Image.{Image}
 use Rattle.net_model.specs.Faults.{IsCode}
 use Rattle.net_model.specs.Functions.{IsFunction}
-use Rattle.net_model.specs.Targets.{unit_at}
 use Rattle.unit_graph.specs.Flow.{Leads}
 use Rattle.unit_graph.specs.Graphs.{AreJust, IsGraph}
 use Rattle.unit_graph.specs.Inference.{AreReturning}
@@ -12,7 +11,6 @@ use Rattle.unit_graph.specs.Search.{IsLed}
 use Rattle.unit_graph.specs.declared.flow.Reach.TheVariants.{Function}
 use Rattle.unit_graph.specs.declared.graph.Graph.{Graph}
 use Rattle.unit_graph.specs.declared.program.Program.{Program}
-use Rattle.unit_graph.specs.declared.reached.Reached.{Reached}
 use Rattle.unit_graph.specs.declared.rows.Row.{Row}
 
 -- The unit at an address calls a function.
@@ -44,10 +42,6 @@ pub record IsProgram (image : Image) (entry : ℕ) (program : Program) : Type 0 
   pub returning : AreReturning image program.rows.items program.returning.keys
   pub code : AreJust (IsCode image entry) program.code.items
   pub functions : AreJust (IsFunction image entry) program.functions.items
-
--- An address with the unit or the fault that stands there.
-abbrev pub described : Image → ℕ → Reached
-described image address = record { address = address; content = unit_at image address }
 
 -- A unit stands at each address to which a function leads.
 abbrev pub AreUnits : List Row → (returning : List ℕ) → ℕ → Type 0

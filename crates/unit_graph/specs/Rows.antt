@@ -1,21 +1,14 @@
 -- The units of a program with where they go on by themselves and what they call.
-use Rattle.std.specs.Prelude.{◌≡◌, ℕ, ◌+◌, ◌<◌, ◌⊎◌, List, [], All, AllPairs, Contains, Bool, true, false}
+use Rattle.std.specs.Prelude.{◌≡◌, ℕ, ◌+◌, ◌<◌, ◌⊎◌, List, [], All, AllPairs, Contains}
 use Rattle.elf_mips.specs.declared.image.Image.{Image}
-use Rattle.mips_decode.specs.declared.instr.Instr.{Instr}
-use Rattle.mips_decode.specs.declared.instr.Instr.TheVariants.{JumpLink}
 use Rattle.net_model.specs.declared.unit.CodeUnit.{CodeUnit}
 use Rattle.net_model.specs.declared.unit.Content.{Content}
 use Rattle.net_model.specs.declared.unit.Content.TheVariants.{Unit as Stands, Fault}
 use Rattle.net_model.specs.Flow.{called, ways_on}
 use Rattle.net_model.specs.Targets.{unit_at}
-use Rattle.unit_graph.specs.Graphs.{IsSetOf}
-use Rattle.unit_graph.specs.Ways.{IfPlaced}
+use Rattle.code_units.specs.Sets.{IsSetOf}
+use Rattle.code_units.specs.Ways.{IfPlaced}
 use Rattle.unit_graph.specs.declared.rows.Row.{Row}
-
--- JALR calls the targets that are recorded for it.
-abbrev pub is_register_call : Instr → Bool
-is_register_call (JumpLink rd rs) = true
-is_register_call instr = false
 
 -- The ways of what stands at an address, and what it calls: a fault has none and calls nothing.
 abbrev pub ways_of_content : Image → Content → ℕ → List ℕ

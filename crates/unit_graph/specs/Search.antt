@@ -1,22 +1,7 @@
 -- How a search for addresses stands: which were seen, and which of them still wait to be looked at.
-use Rattle.std.specs.Prelude.{◌≡◌, ℕ, ◌+◌, ◌<◌, ◌≤◌, ◌^◌, ◌⊎◌, List, [], length, AllPairs, Contains}
+use Rattle.std.specs.Prelude.{◌≡◌, ℕ, ◌+◌, ◌<◌, ◌≤◌, ◌^◌, ◌⊎◌, List, length, AllPairs, Contains}
 use Rattle.std.specs.List.Sorted.{IsStrictlySortedBy}
 use Rattle.std.specs.Ordering.{nat_cmp}
-use Rattle.elf_mips.specs.declared.image.Image.{Image}
-use Rattle.net_model.specs.declared.unit.Content.{Content}
-use Rattle.net_model.specs.declared.unit.Content.TheVariants.{Unit as Stands, Fault}
-use Rattle.net_model.specs.Units.{content_at}
-use Rattle.net_model.specs.Onward.{onward}
-use Rattle.net_model.specs.Reached.{IsReached}
-
--- The onward units of what stands at an address, where calls and indirect jumps aren't followed: a fault has none.
-abbrev pub onward_of : Content → ℕ → List ℕ
-onward_of (Stands unit) address = onward unit address
-onward_of (Fault kind place) address = []
-
--- The unit at an address leads to another one.
-abbrev pub LeadsTo : Image → (address later : ℕ) → Type 0
-LeadsTo image address later = Contains (onward_of (content_at image address) address) later
 
 -- The addresses to which a start leads: itself, and all to which one of them leads.
 pub data IsLed (leads : ℕ → ℕ → Type 0) (start : ℕ) : ℕ → Type 0 where
@@ -60,9 +45,3 @@ pub record AreLed (leads : ℕ → ℕ → Type 0) (start : ℕ) (addresses : Li
   pub low : (x : ℕ) → Contains addresses x → x < 2 ^ 32
   pub sound : (x : ℕ) → Contains addresses x → IsLed leads start x
   pub whole : (x : ℕ) → IsLed leads start x → Contains addresses x
-
--- All addresses that the function reaches, rising, and no other one.
-pub record AreAddresses (image : Image) (entry : ℕ) (addresses : List ℕ) : Type 0 where
-  pub rising : AllPairs (λ (a b : ℕ). a < b) addresses
-  pub sound : (x : ℕ) → Contains addresses x → IsReached image entry x
-  pub whole : (x : ℕ) → IsReached image entry x → Contains addresses x

@@ -3,9 +3,7 @@
 ghost use Rattle.std.specs.Prelude.{◌≡◌, ℕ, ◌<◌, ◌≤◌, ◌⊎◌, All, IsTrue, Option, false};
 ghost use Rattle.net_model.specs.Faults.{rank};
 ghost use Rattle.net_model.specs.declared.unit.Content.{Content};
-ghost use Rattle.unit_graph.specs.declared.reached.Reached.{Reached};
 
-use crate::reached::Reached;
 use net_model::{CodeKind, Content};
 
 /// A fault with its place.
@@ -73,14 +71,14 @@ fn first_of(first: Option<Offence>, content: Content) -> Option<Offence>
     }
 }
 
-/// The first fault of what stands at these addresses, in one pass.
-pub fn first_fault(reached: &[Reached]) -> Option<Offence>
-    ensures among { IsAmong result reached.now }
-    ensures first { All (λ (r : Reached). Follows result r.content) reached.now }
+/// The first fault of these contents, in one pass.
+pub fn first_fault(contents: &[Content]) -> Option<Offence>
+    ensures among { IsAmong result contents.now }
+    ensures first { All (Follows result) contents.now }
 {
     let mut first = None;
-    for one in reached {
-        first = first_of(first, one.content);
+    for content in contents {
+        first = first_of(first, *content);
     }
     first
 }

@@ -9,7 +9,7 @@ ghost use Rattle.unit_graph.specs.Inference.{Adds, AreReturning, AreRules, Infer
 
 use crate::rows::Row;
 use crate::search::{has, see};
-use crate::ways::returns;
+use code_units::returns;
 use net_model::Content;
 use std::alloc::{AllocError, Global};
 use std::collections::BTreeSet;

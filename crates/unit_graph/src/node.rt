@@ -6,13 +6,13 @@ ghost use Rattle.elf_mips.specs.declared.image.Image.{Image};
 ghost use Rattle.unit_graph.specs.Flow.{Follows};
 ghost use Rattle.unit_graph.specs.Inference.{AreReturning};
 ghost use Rattle.unit_graph.specs.Rows.{AreRows, HasUnit};
-ghost use Rattle.unit_graph.specs.Ways.{IsPlaced, listed};
+ghost use Rattle.code_units.specs.Ways.{IsPlaced};
 
 use crate::flow::see_onward;
 use crate::rows::Row;
 use crate::search::{items_of, see_all};
 use crate::span::row_at;
-use crate::ways::{Ways, is_link_passed, load_of, returns};
+use code_units::{is_link_passed, load_of, returns};
 use net_model::{CodeUnit, Content};
 use std::alloc::{AllocError, Global};
 use std::collections::BTreeSet;
@@ -40,22 +40,6 @@ pub struct Unit {
 ghost use Rattle.unit_graph.specs.Graphs.{AreJust, IsNodeAt};
 ghost use Rattle.unit_graph.specs.Nodes.{IsNodeOf};
 ghost use Rattle.unit_graph.specs.declared.node.Unit.{Unit};
-
-/// The list of the addresses.
-pub fn list_of(alloc: Global, ways: Ways) -> Result<List<u32>, AllocError>
-    ensures { IfOk result (λ list. list ≡ listed ways) }
-{
-    let mut list = List::new(alloc);
-    match ways {
-        Ways::Nowhere => {}
-        Ways::One(address) => list.push(address)?,
-        Ways::Two(lesser, greater) => {
-            list.push(lesser)?;
-            list.push(greater)?;
-        }
-    }
-    Ok(list)
-}
 
 /// The onward units of a row's unit.
 fn onward_of(alloc: Global, row: &Row, returning: &BTreeSet<u32>) -> Result<List<u32>, AllocError>

@@ -11,11 +11,10 @@ ghost use Rattle.unit_graph.specs.Search.{Sees};
 use crate::first::{Offence, first_fault};
 use crate::flow::{Reach, led_from};
 use crate::inference::returning_of;
-use crate::reached::Reached;
 use crate::rows::Row;
 use crate::search::{items_of, see, see_all};
 use crate::span::{row_at, rows_of};
-use crate::targets::targets_of;
+use code_units::targets_of;
 use elf_mips::Image;
 use net_model::Content;
 use std::alloc::{AllocError, Global};
@@ -34,7 +33,7 @@ pub struct Program {
     pub functions: Vec<u32>,
 }
 
-ghost use Rattle.unit_graph.specs.Program.{CalledFrom, IsAnyFunction, IsProgram, RowCalls, described};
+ghost use Rattle.unit_graph.specs.Program.{CalledFrom, IsAnyFunction, IsProgram, RowCalls};
 
 /// Sees what the unit at an address calls.
 fn see_calls(
@@ -120,18 +119,15 @@ fn content_of(rows: &[Row], address: u32) -> Content
 }
 
 /// What stands at these addresses.
-fn contents_of(alloc: Global, rows: &[Row], addresses: &[u32]) -> Result<Vec<Reached>, AllocError>
+fn contents_of(alloc: Global, rows: &[Row], addresses: &[u32]) -> Result<Vec<Content>, AllocError>
     requires rising { Rise rows.now }
     requires there { All (HasRow rows.now) addresses.now }
     ensures { IfOk result (λ contents. (image : Image) → All (IsRow image) rows.now →
-        contents.items ≡ map (described image) addresses.now) }
+        contents.items ≡ map (unit_at image) addresses.now) }
 {
     let mut contents = Vec::new(alloc);
     for address in addresses {
-        contents.push(Reached {
-            address: *address,
-            content: content_of(rows, *address),
-        })?;
+        contents.push(content_of(rows, *address))?;
     }
     Ok(contents)
 }

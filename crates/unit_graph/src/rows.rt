@@ -4,16 +4,14 @@ ghost use Rattle.std.specs.Prelude.{◌≡◌, IfOk};
 ghost use Rattle.net_model.specs.Flow.{called, ways_on};
 ghost use Rattle.net_model.specs.Targets.{targets_at, unit_at};
 ghost use Rattle.net_model.specs.declared.unit.Content.{Content};
-ghost use Rattle.unit_graph.specs.Graphs.{IsSetOf};
-ghost use Rattle.unit_graph.specs.Targets.{AreTargets};
-ghost use Rattle.unit_graph.specs.Ways.{IsPlaced};
+ghost use Rattle.code_units.specs.Sets.{IsSetOf};
+ghost use Rattle.code_units.specs.Targets.{AreTargets};
+ghost use Rattle.code_units.specs.Ways.{IsPlaced, listed};
 
-use crate::linked::unit_at;
-use crate::node::list_of;
 use crate::search::{items_of, see_targets};
-use crate::targets::targets_at;
-use crate::transfers::{is_register_call, own_callee, own_ways};
-use crate::ways::{is_indirect, stops};
+use code_units::{
+    Ways, is_indirect, is_register_call, own_callee, own_ways, stops, targets_at, unit_at,
+};
 use elf_mips::{Image, Mark};
 use net_model::{CodeUnit, Content};
 use std::alloc::{AllocError, Global};
@@ -32,6 +30,22 @@ pub struct Row {
 }
 
 ghost use Rattle.unit_graph.specs.Rows.{IsRow};
+
+/// The addresses of a set, as a list.
+fn list_of(alloc: Global, ways: Ways) -> Result<List<u32>, AllocError>
+    ensures { IfOk result (λ list. list ≡ listed ways) }
+{
+    let mut list = List::new(alloc);
+    match ways {
+        Ways::Nowhere => {}
+        Ways::One(address) => list.push(address)?,
+        Ways::Two(lesser, greater) => {
+            list.push(lesser)?;
+            list.push(greater)?;
+        }
+    }
+    Ok(list)
+}
 
 /// The targets that are recorded for an address, as a set.
 fn recorded(

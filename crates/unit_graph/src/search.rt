@@ -1,15 +1,9 @@
-//! The search for the addresses that a function reaches.
+//! The sets of a search: the addresses that were seen, and those that still wait to be looked at.
 
 ghost use Rattle.std.specs.Prelude.{◌≡◌, ◌↔◌, Contains, IfOk, IsTrue, OnOk, map};
-ghost use Rattle.net_model.specs.Units.{content_at};
-ghost use Rattle.unit_graph.specs.Graphs.{IsSetOf};
-ghost use Rattle.unit_graph.specs.Search.{AreAddresses, Sees, onward_of};
-ghost use Rattle.unit_graph.specs.Ways.{listed};
+ghost use Rattle.unit_graph.specs.Search.{Sees};
 
-use crate::content::content_at;
-use crate::ways::{Ways, onward};
-use elf_mips::{Image, Mark};
-use net_model::Content;
+use elf_mips::Mark;
 use std::alloc::{AllocError, Global};
 use std::collections::BTreeSet;
 
@@ -21,28 +15,6 @@ pub fn see(address: u32, seen: &mut BTreeSet<u32>, waiting: &mut Vec<u32>) -> Re
         waiting.push(address)?;
     }
     Ok(())
-}
-
-/// Sees the addresses of these ways, and lets those wait that weren't seen before.
-pub fn see_ways(
-    ways: Ways,
-    seen: &mut BTreeSet<u32>,
-    waiting: &mut Vec<u32>,
-) -> Result<(), AllocError>
-    ensures { OnOk result (Sees (Contains (listed ways)) seen.old.keys waiting.old.items seen.new.keys waiting.new.items) }
-{
-    match ways {
-        Ways::Nowhere => Ok(()),
-        Ways::One(address) => {
-            see(address, seen, waiting)?;
-            Ok(())
-        }
-        Ways::Two(lesser, greater) => {
-            see(lesser, seen, waiting)?;
-            see(greater, seen, waiting)?;
-            Ok(())
-        }
-    }
 }
 
 /// The items of a set, rising.
@@ -85,34 +57,4 @@ pub fn see_targets(
         see(mark.x, seen, waiting)?;
     }
     Ok(())
-}
-
-/// Where what stands at an address goes on: a fault goes nowhere.
-fn ways_at(image: &Image, address: u32) -> Ways
-    ensures { IsSetOf (onward_of (content_at image.now address) address) (listed result) }
-{
-    match content_at(image, address) {
-        Content::Unit(unit) => onward(&unit, address),
-        Content::Fault { .. } => Ways::Nowhere,
-    }
-}
-
-/// The addresses that the function at `entry` reaches.
-///
-/// Each of them is looked at once, and there are at most two searches of the set for each.
-pub fn reached_addresses(
-    alloc: Global,
-    image: &Image,
-    entry: u32,
-) -> Result<BTreeSet<u32>, AllocError>
-    ensures { IfOk result (λ seen. AreAddresses image.now entry seen.keys) }
-{
-    let mut seen = BTreeSet::new(alloc);
-    let mut waiting = Vec::new(alloc);
-    see(entry, &mut seen, &mut waiting)?;
-    while let Some(address) = waiting.pop() {
-        let ways = ways_at(image, address);
-        see_ways(ways, &mut seen, &mut waiting)?;
-    }
-    Ok(seen)
 }

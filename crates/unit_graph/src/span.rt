@@ -3,7 +3,7 @@
 ghost use Rattle.std.specs.Prelude.{◌≡◌, ◌+◌, ◌<◌, ◌^◌, [], All, Contains, IfNone, IfOk, IfSome, OnOk, map};
 ghost use Rattle.unit_graph.specs.Rows.{AreRows, HasRow, IsRow, MayLead, MayLeadAt, Rise};
 ghost use Rattle.unit_graph.specs.Search.{AreLed, Sees};
-ghost use Rattle.unit_graph.specs.Targets.{AreTargets};
+ghost use Rattle.code_units.specs.Targets.{AreTargets};
 
 use crate::rows::{Row, row_of};
 use crate::search::{items_of, see, see_all};

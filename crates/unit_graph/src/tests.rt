@@ -1,12 +1,7 @@
 //! Graphs of short functions without calls, with their onward units worked out by the MIPS I manual, and each order of faults.
 
-use crate::{
-    CodeFault, CodeKind, Graphs, Unit, Ways, branch_target, calls, content_at, function_graphs,
-    is_call, is_indirect, is_link_passed, is_transfer, jump_target, load_of, onward,
-    reached_contents, returns, stops,
-};
+use crate::{CodeFault, CodeKind, Graphs, Unit, function_graphs};
 use elf_mips::{Image, read_image};
-use net_model::{CodeUnit, Content};
 use std::alloc::{AllocError, Global};
 use std::test::Fail;
 
@@ -293,8 +288,6 @@ fn follows_65000_units_in_a_line(rt: HostRuntime) -> Result<(), Fail> {
     words.push(RETURN)?;
     words.push(0)?;
     let image = image_of(alloc, &[(START, 5, words.as_slice())])?;
-    let reached = reached_contents(alloc, &image, START)?;
-    assert_eq!(rt; reached.as_slice().len(), 65_001);
     let Ok(graphs) = function_graphs(alloc, &image, START) else {
         return Err("a fault".into());
     };
@@ -307,74 +300,5 @@ fn follows_65000_units_in_a_line(rt: HostRuntime) -> Result<(), Fail> {
     };
     // 65,000 words of 4 bytes stand before it.
     assert!(rt; is_row(last, &leaving(0x0043_F7A0)));
-    Ok(())
-}
-
-/// The unit of these two words at the start.
-fn unit_of(alloc: Global, word: u32, slot: u32) -> Result<CodeUnit, Fail> {
-    let image = image_of(alloc, &[(START, 5, &[word, slot])])?;
-    match content_at(&image, START) {
-        Content::Unit(unit) => Ok(unit),
-        Content::Fault { .. } => Err("no unit".into()),
-    }
-}
-
-/// Where the unit of these two words at the start goes on; its transfer and its slot don't load.
-fn ways_of(alloc: Global, word: u32, slot: u32) -> Result<Ways, Fail> {
-    let image = image_of(alloc, &[(START, 5, &[word, slot])])?;
-    match content_at(&image, START) {
-        Content::Unit(unit) if load_of(&unit, START).is_none() => Ok(onward(&unit, START)),
-        _ => Err("no unit that loads nothing".into()),
-    }
-}
-
-#[test]
-fn tells_what_a_unit_does(rt: HostRuntime) -> Result<(), Fail> {
-    let alloc = rt.alloc();
-    // The words of a unit; whether it calls, returns, or stops.
-    let cases: [([u32; 2], bool, bool, bool); 7] = [
-        ([0x0C10_0000, 0], true, false, false),
-        ([0x0100_F809, 0], true, false, false),
-        ([0x0491_0003, 0], true, false, false),
-        ([0x0410_0003, 0], false, false, false),
-        ([0x0C10_0000, 0x0000_000C], false, false, true),
-        ([RETURN, 0], false, true, false),
-        ([RETURN, 0x0000_000D], false, false, true),
-    ];
-    for (words, call, back, stop) in cases {
-        let first = words[0];
-        let unit = unit_of(alloc, first, words[1])?;
-        assert_eq!(rt; (calls(&unit), returns(&unit)), (call, back), "at {first}");
-        assert_eq!(rt; stops(&unit), stop, "at {first}");
-        assert!(rt; is_transfer(&unit.instr), "at {first}");
-    }
-    // jr $8 goes to recorded targets, jr $31 doesn't; bltzal $0 may be passed, jal may not.
-    let indirect = unit_of(alloc, 0x0100_0008, 0)?.instr;
-    let back = unit_of(alloc, RETURN, 0)?.instr;
-    assert!(rt; is_indirect(&indirect) && !is_indirect(&back));
-    let passed = unit_of(alloc, 0x0410_0003, 0)?.instr;
-    let call = unit_of(alloc, 0x0C10_0000, 0)?.instr;
-    assert!(rt; is_link_passed(&passed) && !is_link_passed(&call));
-    assert!(rt; is_call(&call) && !is_call(&passed));
-    Ok(())
-}
-
-#[test]
-fn tells_where_a_unit_goes(rt: HostRuntime) -> Result<(), Fail> {
-    let alloc = rt.alloc();
-    let cases: [(u32, Ways); 6] = [
-        (0x0C10_0000, Ways::Nowhere),
-        (0x0100_0008, Ways::Nowhere),
-        (RETURN, Ways::Nowhere),
-        (0x0810_0000, Ways::One(START)),
-        (0x0410_0003, Ways::One(0x0040_0008)),
-        (0x1080_FFFF, Ways::Two(START, 0x0040_0008)),
-    ];
-    for (word, ways) in cases {
-        assert_eq!(rt; ways_of(alloc, word, 0)?, ways, "at {word}");
-    }
-    // A branch by 3 words from its slot, and a jump to four times its index.
-    assert_eq!(rt; branch_target(START, 3), 0x0040_0010);
-    assert_eq!(rt; jump_target(START, 0x0010_0004), 0x0040_0010);
     Ok(())
 }

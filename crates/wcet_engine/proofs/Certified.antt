@@ -10,7 +10,7 @@ use Rattle.flow_net.specs.declared.net.Net.{Net}
 use Rattle.ipet_program.specs.Programs.{FitsImage}
 use Rattle.nest_solver.specs.Tables.{IsFew}
 use Rattle.net_model.specs.Net.{IsNet}
-use Rattle.net_model.proofs.Followed.{unit-content}
+use Rattle.net_model.proofs.Contents.{unit-content}
 
 -- The places of a net are units without a fault.
 pub fits-image : (image : Image) (net : Net) → HasUnits image net → FitsImage image net

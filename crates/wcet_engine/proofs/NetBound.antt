@@ -43,8 +43,7 @@ use Rattle.net_model.specs.Places.{IsPlaceOf}
 use Rattle.net_model.specs.Runs.{AreVisited, IsKeptRun, StandsAt, stands, visits}
 use Rattle.net_model.specs.Targets.{targets_at, unit_at}
 use Rattle.net_model.specs.Units.{content_at}
-use Rattle.net_model.proofs.Contents.{IsFetched-unit}
-use Rattle.net_model.proofs.Followed.{unit-content}
+use Rattle.net_model.proofs.Contents.{IsFetched-unit, unit-content}
 use Rattle.net_model.proofs.Steps.{unit-goes}
 use Rattle.net_model.proofs.Zero.{IsZero}
 use Rattle.wcet_engine.specs.Sentence.{Bounds}

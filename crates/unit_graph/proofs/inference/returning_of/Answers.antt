@@ -3,7 +3,7 @@ use Rattle.unit_graph.specs.Inference.{IsInferring}
 use Rattle.unit_graph.specs.declared.inference.Rule.{Rule}
 use Rattle.unit_graph.proofs.Growing.{grows_shrinks}
 use Rattle.unit_graph.proofs.Inferring.{IsInferring-start, IsInferring-turn}
-use Rattle.unit_graph.proofs.Ranging.{AreAt}
+use Rattle.code_units.proofs.Ranging.{AreAt}
 use Rattle.unit_graph.proofs.Returning.{IsInferring-end}
 use Rattle.unit_graph.proofs.Searching.{empty_by, few_seen}
 use Rattle.unit_graph.proofs.inference.returning_of.Goals as goal

@@ -2,7 +2,7 @@
 use Rattle.std.proofs.Common.{◌-◌, nat_le, nat_lt, rules, ◌∙◌, ap, take, None}
 use Rattle.std.proofs.lemmas.List.Sorted.{IsPartitionPoint-from_clause, IsPartitionedBy-leb, IsPartitionedBy-ltb}
 use Rattle.unit_graph.specs.declared.inference.Rule.{Rule}
-use Rattle.unit_graph.proofs.Ranging.{AreAt, IsSplit, from_to, part_at_address}
+use Rattle.code_units.proofs.Ranging.{AreAt, IsSplit, from_to, part_at_address}
 use Rattle.unit_graph.proofs.inference.rules_at.Goals as goal
 
 nothing : Rule

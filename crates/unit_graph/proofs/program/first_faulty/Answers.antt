@@ -1,5 +1,5 @@
 use Rattle.std.proofs.Common.{◌∙◌, List, All, subst, sym, ap, map}
-use Rattle.unit_graph.specs.Program.{described}
+use Rattle.net_model.specs.Targets.{unit_at}
 use Rattle.unit_graph.specs.Rows.{HasRow, Rise, IsRow}
 use Rattle.unit_graph.specs.declared.rows.Row.{Row}
 use Rattle.unit_graph.proofs.Exploring.{code_rows}
@@ -22,5 +22,5 @@ returns c = λ image entry is.
     IsFirstFaulty-found image entry c.args.program.now.code.items c.deref-3.result.now c.first_fault.result is.code
     (c.deref-3.ensures.value
     ∙ c.in_ok-contents.ensures image (subst (All (IsRow image)) (sym c.deref.ensures.value) is.rows.each)
-    ∙ ap (map (described image)) c.deref-2.ensures.value)
+    ∙ ap (map (unit_at image)) c.deref-2.ensures.value)
     c.first_fault.ensures.among c.first_fault.ensures.first

@@ -1,7 +1,7 @@
 use Rattle.std.proofs.Common.{◌∙◌, sym}
 use Rattle.net_model.specs.Flow.{called, callees}
 use Rattle.net_model.specs.Onward.{stops}
-use Rattle.unit_graph.specs.Ways.{listed}
+use Rattle.code_units.specs.Ways.{listed}
 use Rattle.unit_graph.proofs.Sets.{IfOk-set, IsSetOf-unless}
 use Rattle.unit_graph.proofs.rows.calls_list.Goals as goal
 

@@ -1,7 +1,7 @@
 use Rattle.std.proofs.Common.{◌∙◌, sym}
 use Rattle.net_model.specs.Flow.{own_ways, ways_on}
 use Rattle.net_model.specs.Onward.{stops}
-use Rattle.unit_graph.specs.Ways.{listed}
+use Rattle.code_units.specs.Ways.{listed}
 use Rattle.unit_graph.proofs.Sets.{IfOk-set, IsSetOf-unless}
 use Rattle.unit_graph.proofs.rows.onward_list.Goals as goal
 

@@ -1,8 +1,8 @@
 use Rattle.std.proofs.Common.{map, ◌∙◌}
 use Rattle.elf_mips.specs.declared.mark.Mark.{Mark}
 use Rattle.net_model.specs.Targets.{targets_at}
-use Rattle.unit_graph.proofs.Naming.{found_named, named_found}
-use Rattle.unit_graph.proofs.Ranging.{AreAt}
+use Rattle.code_units.proofs.Naming.{found_named, named_found}
+use Rattle.code_units.proofs.Ranging.{AreAt}
 use Rattle.unit_graph.proofs.Sets.{IsSetOf-seen}
 use Rattle.unit_graph.proofs.rows.recorded.Goals as goal
 

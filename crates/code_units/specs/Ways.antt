@@ -1,0 +1,24 @@
+-- Sets of at most two addresses, and units whose further addresses are below 2 ^ 32.
+use Rattle.std.specs.Prelude.{ℕ, ◌+◌, ◌<◌, ◌^◌, List, [], ◌∷◌}
+use Rattle.mips_decode.specs.Table.{IsValid}
+use Rattle.net_model.specs.declared.unit.CodeUnit.{CodeUnit}
+use Rattle.net_model.specs.declared.unit.Content.{Content}
+use Rattle.net_model.specs.declared.unit.Content.TheVariants.{Unit as Stands, Fault}
+use Rattle.code_units.specs.declared.ways.Ways.{Ways}
+use Rattle.code_units.specs.declared.ways.Ways.TheVariants.{Nowhere, One, Two}
+
+-- The addresses of such a set.
+abbrev pub listed : Ways → List ℕ
+listed Nowhere = []
+listed (One address) = address ∷ []
+listed (Two lesser greater) = lesser ∷ greater ∷ []
+
+-- A unit of the instruction table at an address behind whose two words no address wraps.
+pub record IsPlaced (unit : CodeUnit) (address : ℕ) : Type 0 where
+  pub valid : IsValid unit.instr
+  pub low : address + 8 < 2 ^ 32
+
+-- Where a unit stands at an address, it is placed there.
+abbrev pub IfPlaced : Content → ℕ → Type 0
+IfPlaced (Stands unit) address = IsPlaced unit address
+IfPlaced (Fault kind place) address = Unit {0}
