@@ -3,6 +3,7 @@
 
 mod clash;
 mod fill;
+mod fillable;
 mod index;
 mod machine;
 mod memory;
@@ -14,6 +15,7 @@ mod unit;
 
 pub use clash::has_clash;
 pub use fill::Fill;
+pub use fillable::are_fillable;
 pub use machine::Machine;
 pub use mips_decode::{Regs, Touched, TrapKind};
 pub use outcome::Outcome;

@@ -1,11 +1,12 @@
-//! Small programs run whole, each kind of trap, and the edges of memory.
+//! Small programs run whole, each kind of trap, the edges of memory, and what is put into it.
 
-use crate::{Machine, Outcome, Regs, Touched, TrapKind, has_clash};
+use crate::{Fill, Machine, Outcome, Regs, Touched, TrapKind, are_fillable, has_clash};
 use cache_config::Profile;
 use elf_mips::{Image, read_image};
 use mips_decode::Reg;
 use std::alloc::{AllocError, Global};
 use std::test::Fail;
+use wcet_io::List;
 
 /// Where the one segment begins, and its entry.
 const ENTRY: u32 = 0x0040_0000;
@@ -56,19 +57,36 @@ fn image_of(alloc: Global, words: &[u32]) -> Result<Image, Fail> {
     Ok(read_image(alloc, &file)?)
 }
 
-/// The machine before the first of the words, with zero registers and the plain profile.
-fn machine_of(alloc: Global, words: &[u32]) -> Result<Machine, Fail> {
+/// Bytes that are put into memory from an address on.
+fn fill_of(alloc: Global, address: u32, bytes: &[u8]) -> Result<Fill, AllocError> {
+    let bytes = Vec::from_slice(alloc, bytes)?;
+    Ok(Fill {
+        address,
+        bytes: List::from_vec(bytes),
+    })
+}
+
+/// The machine before the first of the words, with zero registers, the plain profile and these fills.
+fn machine_with(alloc: Global, words: &[u32], fills: &[Fill]) -> Result<Machine, Fail> {
     let image = image_of(alloc, words)?;
     let profile = Profile::plain(alloc);
     if has_clash(&image, &profile) {
         return Err("a clash".into());
+    }
+    if !are_fillable(&image, &profile, fills) {
+        return Err("a fill without its place".into());
     }
     let zero = Regs {
         general: [0; 32],
         hi: 0,
         lo: 0,
     };
-    Ok(Machine::start(alloc, &image, &profile, ENTRY, &zero, &[])?)
+    Ok(Machine::start(alloc, &image, &profile, ENTRY, &zero, fills)?)
+}
+
+/// The same with nothing put into memory.
+fn machine_of(alloc: Global, words: &[u32]) -> Result<Machine, Fail> {
+    machine_with(alloc, words, &[])
 }
 
 /// Does units until the entry returns, a unit traps, or so many are done.
@@ -229,6 +247,48 @@ fn reaches_the_area_above_the_stack(rt: HostRuntime) -> Result<(), Fail> {
         address: 0x0040_0008,
     };
     assert_eq!(rt; run_until(&mut machine, 1), trap);
+    Ok(())
+}
+
+#[test]
+fn starts_with_fills_of_which_a_later_one_holds(rt: HostRuntime) -> Result<(), Fail> {
+    // Loads of the word below the stack's top, of the last word of the area above it, and of a word
+    // between them that nothing fills.
+    let words = [0x8FA2_FFFC, 0x8FA3_003C, 0x8FA4_0000, 0x03E0_0008, 0];
+    let alloc = rt.alloc();
+    let fills = [
+        fill_of(alloc, 0x7FFE_FFFC, &[0x11, 0x22, 0x33, 0x44])?,
+        fill_of(alloc, 0x7FFE_FFFD, &[0xAA, 0xBB])?,
+        fill_of(alloc, 0x7FFF_003C, &[1, 2, 3, 4])?,
+        // Without bytes: at the program's first word, and at the end of its segment.
+        fill_of(alloc, ENTRY, &[])?,
+        fill_of(alloc, 0x0040_0016, &[])?,
+    ];
+    let mut machine = machine_with(alloc, &words, &fills)?;
+    assert_eq!(rt; run_until(&mut machine, 4), Outcome::Returned);
+    let loaded = [0x11AA_BB44, 0x0102_0304, 0];
+    assert_eq!(rt; &numbers(&machine)[2..5], loaded.as_slice());
+    Ok(())
+}
+
+#[test]
+fn tells_which_fills_have_their_place(rt: HostRuntime) -> Result<(), Fail> {
+    let alloc = rt.alloc();
+    let image = image_of(alloc, &[0x03E0_0008, 0])?;
+    let profile = Profile::plain(alloc);
+    // An address, and whether three bytes may be put there: among the words, at both ends of the
+    // stack, which lies at 7FFE0000 to 7FFF003F, and outside.
+    for (address, fits) in [
+        (ENTRY, false),
+        (0x7FFD_FFFF, false),
+        (0x7FFE_0000, true),
+        (0x7FFF_003D, true),
+        (0x7FFF_003E, false),
+        (0xFFFF_FFFE, false),
+    ] {
+        let fills = [fill_of(alloc, address, &[1, 2, 3])?];
+        assert_eq!(rt; are_fillable(&image, &profile, &fills), fits, "{address:x}");
+    }
     Ok(())
 }
 
