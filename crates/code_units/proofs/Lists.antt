@@ -1,7 +1,18 @@
--- What lists hold: those that a test leaves, and the images of others.
+-- What lists hold: short ones, those that a test leaves, and the images of others.
 use Rattle.std.proofs.Common.{◌≡◌, ℕ, Bool, true, false, cond, List, [], ◌∷◌, map, filter, zero, suc, refl, ap, ◌∙◌, arith}
 use Rattle.std.specs.Prelude.{Contains}
 use Rattle.std.proofs.lemmas.List.Elements.{Contains-append_right}
+
+-- What an empty list holds, and one of one item.
+pub in_none : {X : Type 0} (x : X) → Contains [] x → ⊥
+in_none x (k, inside, e) = omega arith
+
+pub alone : {X : Type 0} (a x : X) → Contains (a ∷ []) x → a ≡ x
+alone a x (zero, inside, e) = e
+alone a x (suc k, inside, e) = absurd (omega arith)
+
+pub itself : {X : Type 0} (a : X) → Contains (a ∷ []) a
+itself a = (0, omega arith, refl)
 
 tail : {X : Type 0} (y x : X) (xs : List X) → Contains xs x → Contains (y ∷ xs) x
 tail y x xs h = Contains-append_right (y ∷ []) xs x h

@@ -1,4 +1,5 @@
-//! What branches and units may do: which branches are taken or passed, where they go, and which units stop, return or load.
+//! What branches and units may do: which branches are taken or passed, and which units stop, return
+//! or load.
 
 ghost use Rattle.std.specs.Prelude.{◌≡◌, ◌∷◌, [], ◌+◌, ◌<◌, ◌^◌};
 

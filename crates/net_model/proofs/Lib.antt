@@ -3,6 +3,7 @@ pub mod Functions
 pub mod SameCode
 pub mod SameNets
 pub mod Contents
+pub mod UnitFaults
 pub mod Zero
 pub mod Ways
 pub mod Steps

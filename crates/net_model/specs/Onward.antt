@@ -1,4 +1,5 @@
--- What branches and units may do: which branches are taken or passed, and which units stop, return or load.
+-- What branches and units may do: which branches are taken or passed, and which units stop, return
+-- or load.
 use Rattle.std.specs.Prelude.{ℕ, ◌+◌, ◌==◌, ◌&&◌, ◌||◌, Bool, true, false, not, List, [], ◌∷◌, ◌++◌, Option, Some, None, if◌then◌else◌}
 use Rattle.mips_decode.specs.declared.instr.BranchOp.{BranchOp}
 use Rattle.mips_decode.specs.declared.instr.BranchOp.TheVariants.{Beq, Bne, Blez, Bgtz, Bltz, Bgez, Bltzal, Bgezal}

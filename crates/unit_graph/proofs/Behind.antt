@@ -10,7 +10,7 @@ use Rattle.unit_graph.specs.Search.{Sees}
 use Rattle.unit_graph.specs.declared.flow.Reach.{Reach}
 use Rattle.unit_graph.specs.declared.flow.Reach.TheVariants.{Function, Program}
 use Rattle.unit_graph.specs.declared.rows.Row.{Row}
-use Rattle.unit_graph.proofs.RuleLists.{in_none}
+use Rattle.code_units.proofs.Lists.{in_none}
 use Rattle.unit_graph.proofs.Seen.{Sees-none, Sees-same, Sees-then}
 
 pub some_none : (returning : List ℕ) → SomeReturns returning [] → ⊥

@@ -7,7 +7,7 @@ use Rattle.unit_graph.specs.Rows.{HasRow, Rise}
 use Rattle.unit_graph.specs.Search.{Sees}
 use Rattle.unit_graph.specs.declared.rows.Row.{Row}
 use Rattle.unit_graph.proofs.Behind.{same_row}
-use Rattle.unit_graph.proofs.RuleLists.{in_none}
+use Rattle.code_units.proofs.Lists.{in_none}
 use Rattle.unit_graph.proofs.Seen.{Sees-none, Sees-same, Sees-then}
 
 pub calls_nowhere : (rows : List Row) (address : ℕ) (seen waiting : List ℕ) → (HasRow rows address → ⊥) →

@@ -5,7 +5,7 @@ use Rattle.std.proofs.lemmas.List.Elements.{Contains-append_left, Contains-push,
 use Rattle.unit_graph.specs.Inference.{IsEnd, returns_at}
 use Rattle.unit_graph.specs.Search.{Sees}
 use Rattle.unit_graph.specs.declared.rows.Row.{Row}
-use Rattle.unit_graph.proofs.RuleLists.{alone, in_none, itself}
+use Rattle.code_units.proofs.Lists.{alone, in_none, itself}
 use Rattle.unit_graph.proofs.Seen.{Sees-none, Sees-same, Sees-then}
 
 pub ends_nobody : (seen waiting : List ℕ) → Sees (IsEnd []) seen waiting seen waiting

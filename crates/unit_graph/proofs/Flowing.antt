@@ -18,7 +18,7 @@ use Rattle.unit_graph.specs.declared.flow.Reach.TheVariants.{Function, Program}
 use Rattle.unit_graph.specs.declared.rows.Row.{Row}
 use Rattle.unit_graph.proofs.Inferring.{goes_back, goes_on}
 use Rattle.unit_graph.proofs.Returning.{row_calls, row_goes}
-use Rattle.unit_graph.proofs.RuleLists.{in_none}
+use Rattle.code_units.proofs.Lists.{in_none}
 
 -- The onward units of a row's unit.
 pub follows_goes : (image : Image) (entry : ℕ) (rows : List Row) (returning : List ℕ) (row : Row) (later : ℕ) →

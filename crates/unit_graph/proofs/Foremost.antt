@@ -1,8 +1,7 @@
 -- Which fault comes first: of two, and of all that are reached.
-use Rattle.std.proofs.Common.{◌≡◌, ℕ, ◌+◌, ◌<◌, List, [], ◌∷◌, ◌++◌, map, take, length, get_or, zero, suc, Option, Some, None, refl, ap, sym, subst, ◌∙◌, arith, inl, inr, ◌⊎◌}
+use Rattle.std.proofs.Common.{◌≡◌, ℕ, List, [], ◌∷◌, ◌++◌, Option, Some, None, subst, arith, inl, inr, ◌⊎◌}
 use Rattle.std.specs.Prelude.{All, Contains}
-use Rattle.std.proofs.lemmas.List.{take_more}
-use Rattle.std.proofs.lemmas.List.Elements.{All-push, All-weaker, Contains-append_left, Contains-append_right, Contains-push}
+use Rattle.std.proofs.lemmas.List.Elements.{All-push, All-weaker, Contains-append_left, Contains-push}
 use Rattle.net_model.specs.declared.unit.CodeKind.{CodeKind}
 use Rattle.net_model.specs.declared.unit.Content.{Content}
 use Rattle.net_model.specs.declared.unit.Content.TheVariants.{Unit as Stands, Fault}
@@ -39,12 +38,6 @@ IsAmong-more (Some first) (Some result) contents one among (inl e) =
     (Contains-append_left contents (one ∷ []) (Fault first.kind first.place) among)
 IsAmong-more first (Some result) contents one among (inr here) =
     subst (Contains (contents ++ one ∷ [])) here (Contains-push contents one)
-
--- One more item.
-pub one_more : {X : Type 0} (xs : List X) (i : ℕ) (one : X) → i < length xs → one ≡ get_or xs i one →
-    take (i + 1) xs ≡ take i xs ++ one ∷ []
-one_more {X} xs i one l e =
-    take_more xs i one l ∙ ap (λ (r : X). take i xs ++ r ∷ []) (sym e)
 
 pub Follows-more : (first result : Option Offence) (contents : List Content) (one : Content) →
     All (Follows first) contents → ((content : Content) → Follows first content → Follows result content) →

@@ -17,7 +17,7 @@ use Rattle.unit_graph.specs.Search.{Sees}
 use Rattle.unit_graph.specs.declared.inference.Rule.{Rule}
 use Rattle.unit_graph.specs.declared.rows.Row.{Row}
 use Rattle.code_units.proofs.Ranging.{AreAt}
-use Rattle.unit_graph.proofs.RuleLists.{in_none}
+use Rattle.code_units.proofs.Lists.{in_none}
 
 pub AreRules-sorted : (rows : List Row) (items sorted : List Rule) → Adds (IsAnyRule rows) [] items → IsPermutation items sorted →
     IsNonDecreasingBy (λ (rule : Rule). rule.given) sorted → AreRules rows sorted

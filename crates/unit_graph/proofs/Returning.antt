@@ -15,7 +15,7 @@ use Rattle.unit_graph.specs.Rows.{AreRows, HasRow, IsRow, calls_of_content, ways
 use Rattle.unit_graph.specs.declared.inference.Rule.{Rule}
 use Rattle.unit_graph.specs.declared.rows.Row.{Row}
 use Rattle.unit_graph.proofs.FarSight.{not_empty}
-use Rattle.unit_graph.proofs.RuleLists.{in_none}
+use Rattle.code_units.proofs.Lists.{in_none}
 
 -- The row of an address at which a unit stands.
 pub at_row : (image : Image) (rows : List Row) (entry address : ℕ) → AreRows image entry rows → (has : HasRow rows address) →

@@ -2,6 +2,7 @@
 use Rattle.std.proofs.Common.{◌≡◌, ℕ, ◌+◌, List, [], ◌∷◌, ◌++◌, Some, None, zero, suc, refl, sym, subst, arith, inl, inr, ◌⊎◌}
 use Rattle.std.specs.Prelude.{Contains}
 use Rattle.std.proofs.lemmas.List.Elements.{Contains-append_left, Contains-push, Contains-push_cases}
+use Rattle.code_units.proofs.Lists.{alone, in_none, itself}
 use Rattle.unit_graph.specs.Inference.{Adds, IsAnyRule, IsCallRule, IsOnwardRule, IsRuleOf}
 use Rattle.unit_graph.specs.declared.inference.Rule.{Rule}
 use Rattle.unit_graph.specs.declared.rows.Row.{Row}
@@ -38,16 +39,6 @@ Adds-same these others items later into back f = record {
   there = λ rule h. f.there rule (back rule h);
   only = λ rule h. elim (f.only rule h) [ inl p ↦ inl p | inr q ↦ inr (into rule q) ];
 }
-
-pub in_none : {X : Type 0} (x : X) → Contains [] x → ⊥
-in_none x (k, inside, e) = omega arith
-
-pub alone : {X : Type 0} (a x : X) → Contains (a ∷ []) x → a ≡ x
-alone a x (zero, inside, e) = e
-alone a x (suc k, inside, e) = absurd (omega arith)
-
-pub itself : {X : Type 0} (a : X) → Contains (a ∷ []) a
-itself a = (0, omega arith, refl)
 
 -- One way more.
 pub no_onward : (address : ℕ) (rule : Rule) → IsOnwardRule address [] rule → ⊥

@@ -6,10 +6,8 @@ use Rattle.std.specs.Ordering.{nat_cmp}
 use Rattle.std.proofs.lemmas.Map.Keys.{below_from_sorted}
 use Rattle.std.proofs.lemmas.Map.Views.{length-le_from_below}
 use Rattle.std.proofs.lemmas.List.Elements.{All-contains_itself, All-weaker, Contains-append_left, Contains-push, Contains-push_cases}
+use Rattle.code_units.proofs.Lists.{in_none}
 use Rattle.unit_graph.specs.Search.{AreLed, IsDone, IsLed, IsSearch, Sees, begins, goes}
-
-in_none : (x : ℕ) → Contains [] x → ⊥
-in_none x (k, inside, same) = omega arith
 
 nothing : (none : List ℕ) (x : ℕ) → none ≡ [] → Contains none x → ⊥
 nothing none x e h = in_none x (subst (λ (xs : List ℕ). Contains xs x) e h)

@@ -8,12 +8,8 @@ use Rattle.std.proofs.lemmas.Cmp.{nat_cmp_total}
 use Rattle.std.proofs.lemmas.Map.Lookups.{exact_unsigned}
 use Rattle.std.proofs.lemmas.Map.Views.{btree_set_contains_iff, tells_apart}
 use Rattle.std.proofs.lemmas.List.Elements.{Contains-append_left, Contains-append_cases, Contains-push, Contains-push_cases}
+use Rattle.code_units.proofs.Lists.{alone, in_none}
 use Rattle.unit_graph.specs.Search.{Sees}
-
--- The one item of a list.
-alone : (a x : ℕ) → Contains (a ∷ []) x → a ≡ x
-alone a x (zero, inside, e) = e
-alone a x (suc k, inside, e) = absurd (omega arith)
 
 -- What is in a set.
 there : (s : BTreeSet ℕ) (x : ℕ) → contains nat_cmp s x ≡ true → Contains s.keys x
@@ -152,9 +148,6 @@ Sees-more xs y seen waiting seen1 waiting1 seen2 waiting2 f g =
 -- No address of an empty list.
 pub Sees-nobody : (seen waiting : List ℕ) → Sees (Contains []) seen waiting seen waiting
 Sees-nobody seen waiting = Sees-none (Contains []) seen waiting (λ x h. absurd (in_none x h)) (λ x h. absurd (in_none x h))
-  where
-    in_none : (x : ℕ) → Contains [] x → ⊥
-    in_none x (k, inside, same) = omega arith
 
 -- What `insert` says of an address that isn't new.
 pub had_by : (added held : Bool) → added ≡ not held → added ≡ false → held ≡ true

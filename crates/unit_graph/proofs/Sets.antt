@@ -6,6 +6,7 @@ use Rattle.std.specs.Ordering.{nat_cmp}
 use Rattle.std.proofs.lemmas.Map.Keys.{below_from_sorted}
 use Rattle.std.proofs.lemmas.List.Elements.{All-contains_itself, All-weaker}
 use Rattle.code_units.specs.Sets.{IsSetOf}
+use Rattle.code_units.proofs.Lists.{in_none}
 use Rattle.unit_graph.specs.Graphs.{AreJust}
 use Rattle.unit_graph.specs.Search.{Sees}
 
@@ -20,9 +21,6 @@ IsSetOf-seen given xs none nobody keys waiting items empty sorted sees into back
       whole = All-weaker (Contains given) (Contains keys) (λ x h. sees.there x (back x h)) given (All-contains_itself given);
     })
   where
-    in_none : (x : ℕ) → Contains [] x → ⊥
-    in_none x (k, inside, same) = omega arith
-
     sound : (x : ℕ) → Contains keys x → Contains given x
     sound x h = elim (sees.only x h) [
       | inl p ↦ absurd (in_none x (subst (λ (ys : List ℕ). Contains ys x) empty p))
@@ -51,9 +49,6 @@ AreJust-seen these none nobody keys waiting items empty sorted sees e =
       ];
       whole = sees.there;
     })
-  where
-    in_none : (x : ℕ) → Contains [] x → ⊥
-    in_none x (k, inside, same) = omega arith
 
 pub AreJust-same : (these others : ℕ → Type 0) (items : List ℕ) → ((x : ℕ) → these x → others x) → ((x : ℕ) → others x → these x) →
     AreJust these items → AreJust others items

@@ -1,7 +1,7 @@
 use Rattle.std.proofs.Common.{List, Some, take, subst, sym}
 use Rattle.unit_graph.specs.Graphs.{IsGraph}
 use Rattle.unit_graph.specs.declared.graph.Graph.{Graph}
-use Rattle.unit_graph.proofs.Foremost.{one_more}
+use Rattle.step_table.proofs.Seen.{one_more}
 use Rattle.loop_nest.specs.Plans.{IsAnswer}
 use Rattle.loop_nest.specs.Programs.{IsFoundIn}
 use Rattle.loop_nest.proofs.Finding.{found_fault, found_loops, found_nothing}

@@ -1,6 +1,7 @@
 use Rattle.std.proofs.Common.{All, subst, sym, take}
 use Rattle.unit_graph.specs.Firsts.{Follows, IsAmong}
-use Rattle.unit_graph.proofs.Foremost.{Follows-more, IsAmong-more, one_more}
+use Rattle.step_table.proofs.Seen.{one_more}
+use Rattle.unit_graph.proofs.Foremost.{Follows-more, IsAmong-more}
 use Rattle.unit_graph.proofs.first.first_fault.Goals as goal
 
 pub loop-content-preserved : goal.loop-content-preserved

@@ -6,7 +6,7 @@ use Rattle.unit_graph.specs.Rows.{IsRow}
 use Rattle.unit_graph.specs.declared.inference.Rule.{Rule}
 use Rattle.unit_graph.specs.declared.rows.Row.{Row}
 use Rattle.unit_graph.proofs.FarSight.{low_some}
-use Rattle.unit_graph.proofs.Foremost.{one_more}
+use Rattle.step_table.proofs.Seen.{one_more}
 use Rattle.unit_graph.proofs.Inferring.{AreRules-sorted}
 use Rattle.unit_graph.proofs.RuleLists.{Adds-none, no_rows, rows_more}
 use Rattle.unit_graph.proofs.inference.rules_of.Goals as goal

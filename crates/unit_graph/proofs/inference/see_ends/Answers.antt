@@ -3,7 +3,7 @@ use Rattle.std.proofs.lemmas.List.{take_all}
 use Rattle.unit_graph.specs.Inference.{IsEnd}
 use Rattle.unit_graph.specs.Search.{Sees}
 use Rattle.unit_graph.specs.declared.rows.Row.{Row}
-use Rattle.unit_graph.proofs.Foremost.{one_more}
+use Rattle.step_table.proofs.Seen.{one_more}
 use Rattle.unit_graph.proofs.Ends.{ends_more, ends_nobody}
 use Rattle.unit_graph.proofs.inference.see_ends.Goals as goal
 
