@@ -19,11 +19,18 @@ use Rattle.net_model.specs.Functions.{IsFunction}
 use Rattle.net_model.specs.Loops.{IsIrreducible, IsNamedBy, IsUnbounded}
 use Rattle.step_table.proofs.Positions.{zip_push}
 use Rattle.unit_graph.specs.Firsts.{IsNoEarlier}
-use Rattle.unit_graph.specs.Graphs.{AreGraphs, IsGraphIn}
+use Rattle.unit_graph.specs.Graphs.{AreGraphs, IsGraph, IsGraphIn}
 use Rattle.unit_graph.specs.declared.first.Offence.{Offence}
 use Rattle.unit_graph.specs.declared.graph.Graph.{Graph}
 use Rattle.unit_graph.specs.declared.graph.Graphs.{Graphs}
 use Rattle.unit_graph.proofs.Foremost.{later}
+
+-- Each graph is that of a function.
+pub each_graph : (image : Image) (entry : ℕ) (graphs : Graphs) (listed : List Graph) → AreGraphs image entry graphs →
+    listed ≡ graphs.graphs → All (λ (g : Graph). IsGraph image g.entry g) listed
+each_graph image entry graphs listed are e =
+    subst (All (λ (g : Graph). IsGraph image g.entry g)) (sym e)
+    (All-weaker (IsGraphIn image entry) (λ (g : Graph). IsGraph image g.entry g) (λ g is. is.is) graphs.graphs are.each)
 
 pub found_nothing : (image : Image) (nests : List (List Loop)) → nests ≡ [] → IsFoundIn image [] nests None
 found_nothing image nests e = record {

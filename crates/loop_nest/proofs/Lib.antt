@@ -17,9 +17,11 @@ mod Finding
 mod Holding
 mod Collecting
 mod Irreducibles
+mod Least
 mod Nesting
 mod Planning
 mod Ranking
+mod Recording
 mod Regular
 mod Removing
 mod Retreating

@@ -4,18 +4,19 @@ use Rattle.std.specs.Prelude.{Contains, slice_get, zero, suc}
 use Rattle.std.proofs.lemmas.Option.{none-some, same_Some, slice_get-get_or, slice_get_within}
 use Rattle.std.proofs.lemmas.List.Elements.{Contains-get_or}
 use Rattle.elf_mips.specs.declared.image.Image.{Image}
-use Rattle.elf_mips.specs.declared.mark.Mark.{Mark}
 use Rattle.net_model.specs.Loops.{IsLoopBound, IsUnbounded}
 use Rattle.unit_graph.specs.declared.graph.Graph.{Graph}
 use Rattle.unit_graph.specs.Graphs.{IsGraph}
+use Rattle.loop_nest.specs.declared.listing.Listed.{Listed}
 use Rattle.loop_nest.specs.declared.listing.Listed.TheVariants.{Loops, Unbounded}
 use Rattle.loop_nest.specs.declared.nest.Loop.{Loop}
 use Rattle.loop_nest.specs.declared.plan.Plan.{Plan}
 use Rattle.loop_nest.specs.Bodies.{AreInner}
-use Rattle.loop_nest.specs.Bounds.{AreBounds, IsBoundOf, IsLeastOf}
+use Rattle.loop_nest.specs.Bounds.{AreBounds, AreRecorded, IsLeastOf}
 use Rattle.loop_nest.specs.Listing.{AreLoopsAt, IsHead, IsLoopAt, IsUnboundedAt}
 use Rattle.loop_nest.specs.Nests.{IsFirstIrreducible, IsFirstUnbounded, IsLoop, IsNest}
 use Rattle.loop_nest.specs.Plans.{AreRegular, IsIrregularAt, IsPlan}
+use Rattle.loop_nest.proofs.Bounding.{bound_is, IsBoundOf}
 use Rattle.loop_nest.proofs.Bridge.{place_at, same_at}
 use Rattle.loop_nest.proofs.Dominance.{body-reached, header-reached}
 use Rattle.loop_nest.proofs.HeaderRank.{ranks-reducible}
@@ -29,24 +30,27 @@ pub record IsKnown (image : Image) (entry : ℕ) (graph : Graph) (addresses : Li
     (ranks : List ℕ) (start : ℕ) (innermost bounds : List (Option ℕ)) : Type 0 where
   pub regular : IsRegular image entry graph addresses table reverse sources ranks start
   pub inner : AreInner reverse sources ranks (length reverse) innermost
-  pub bounded : AreBounds graph.units innermost image.marks bounds
+  pub recorded : ℕ → Option ℕ
+  pub records : AreRecorded image.marks recorded
+  pub bounded : AreBounds graph.units innermost recorded bounds
   pub count : length sources ≡ length addresses
 
 pub loop_bound : (image : Image) (entry : ℕ) (graph : Graph) (addresses : List ℕ) (table reverse sources : List (List ℕ)) (ranks : List ℕ) (start : ℕ)
     (innermost bounds : List (Option ℕ)) → IsKnown image entry graph addresses table reverse sources ranks start innermost bounds →
     (h hd b : ℕ) → slice_get addresses h ≡ Some hd → slice_get bounds h ≡ Some (Some b) → IsLoopBound image entry hd b
 loop_bound image entry graph addresses table reverse sources ranks start innermost bounds k h hd b ath there =
-    let least : IsLeastOf (IsBoundOf graph.units innermost image.marks h) (Some b) = k.bounded.each h (Some b) there in
+    let least : IsLeastOf (IsBoundOf graph.units innermost image.marks h) (Some b) =
+    bound_is graph.units innermost image.marks k.recorded bounds k.records k.bounded h (Some b) there in
     let one : IsBoundOf graph.units innermost image.marks h b = least.0 in
     record {
       mark = one.mark;
       listed = one.listed;
-      named = bounds_named image entry graph addresses table reverse sources ranks start innermost k.regular k.inner h hd ath one.mark one.bounds;
+      named = bounds_named image entry graph addresses table reverse sources ranks start innermost k.regular k.inner h hd ath one.mark one.names;
       same = one.same;
       least = λ other listed named. least.1 other.x (record {
         mark = other;
         listed = listed;
-        bounds = named_bounds image entry graph addresses table reverse sources ranks start innermost k.regular k.inner h hd ath other named;
+        names = named_bounds image entry graph addresses table reverse sources ranks start innermost k.regular k.inner h hd ath other named;
         same = refl;
       });
     }
@@ -55,13 +59,14 @@ unbounded_at : (image : Image) (entry : ℕ) (graph : Graph) (addresses : List �
     (innermost bounds : List (Option ℕ)) → IsKnown image entry graph addresses table reverse sources ranks start innermost bounds →
     (h hd : ℕ) → slice_get addresses h ≡ Some hd → IsHead sources h → slice_get bounds h ≡ Some None → IsUnbounded image entry hd
 unbounded_at image entry graph addresses table reverse sources ranks start innermost bounds k h hd ath head there =
-    let none : IsLeastOf (IsBoundOf graph.units innermost image.marks h) None = k.bounded.each h None there in
+    let none : IsLeastOf (IsBoundOf graph.units innermost image.marks h) None =
+    bound_is graph.units innermost image.marks k.recorded bounds k.records k.bounded h None there in
     record {
       loops = header_of image entry graph addresses table reverse sources ranks start k.regular h hd ath head;
       unnamed = λ mark listed named. none mark.x (record {
         mark = mark;
         listed = listed;
-        bounds = named_bounds image entry graph addresses table reverse sources ranks start innermost k.regular k.inner h hd ath mark named;
+        names = named_bounds image entry graph addresses table reverse sources ranks start innermost k.regular k.inner h hd ath mark named;
         same = refl;
       });
     }
@@ -121,11 +126,11 @@ first_unbounded image entry graph addresses table reverse sources ranks start in
 }
 
 -- The same by the plan of a graph.
-known_by : (image : Image) (entry : ℕ) (graph : Graph) (plan : Plan) (marks : List Mark) → IsGraph image entry graph → IsPlan graph plan →
-    marks ≡ image.marks → (loops : List Loop) → (found : AreRegular graph plan marks (Loops loops)) →
+known_by : (image : Image) (entry : ℕ) (graph : Graph) (plan : Plan) (recorded : ℕ → Option ℕ) → IsGraph image entry graph → IsPlan graph plan →
+    AreRecorded image.marks recorded → (listed : Listed) → (found : AreRegular graph plan recorded listed) →
     IsKnown image entry graph plan.addresses.items plan.table.items plan.reverse.items found.sources found.ranks
     plan.entry found.innermost found.bounds
-known_by image entry graph plan marks graphed is e loops found = record {
+known_by image entry graph plan recorded graphed is records listed found = record {
   regular = record {
     laid = laid_of image entry graph plan graphed is;
     ranked = found.ranked;
@@ -134,19 +139,21 @@ known_by image entry graph plan marks graphed is e loops found = record {
     reversed = is.reversed;
   };
   inner = found.inner;
-  bounded = subst (λ (ms : List Mark). AreBounds graph.units found.innermost ms found.bounds) e found.bounded;
+  recorded = recorded;
+  records = records;
+  bounded = found.bounded;
   count = found.are.count ∙ is.count;
 }
 
-pub nest_by : (image : Image) (entry : ℕ) (graph : Graph) (plan : Plan) (marks : List Mark) → IsGraph image entry graph → IsPlan graph plan →
-    marks ≡ image.marks → (loops : List Loop) → AreRegular graph plan marks (Loops loops) → IsNest image entry loops
-nest_by image entry graph plan marks graphed is e loops found =
+pub nest_by : (image : Image) (entry : ℕ) (graph : Graph) (plan : Plan) (recorded : ℕ → Option ℕ) → IsGraph image entry graph → IsPlan graph plan →
+    AreRecorded image.marks recorded → (loops : List Loop) → AreRegular graph plan recorded (Loops loops) → IsNest image entry loops
+nest_by image entry graph plan recorded graphed is records loops found =
     nest_is image entry graph plan.addresses.items plan.table.items plan.reverse.items found.sources found.ranks
-    plan.entry found.innermost found.bounds (known_by image entry graph plan marks graphed is e loops found) loops found.listed
+    plan.entry found.innermost found.bounds (known_by image entry graph plan recorded graphed is records (Loops loops) found) loops found.listed
 
-pub unbounded_within : (graph : Graph) (plan : Plan) (marks : List Mark) → IsPlan graph plan → (header : ℕ) →
-    AreRegular graph plan marks (Unbounded header) → header < length plan.addresses.items
-unbounded_within graph plan marks is header found =
+pub unbounded_within : (graph : Graph) (plan : Plan) (recorded : ℕ → Option ℕ) → IsPlan graph plan → (header : ℕ) →
+    AreRegular graph plan recorded (Unbounded header) → header < length plan.addresses.items
+unbounded_within graph plan recorded is header found =
     omega (
       arith,
       is.count,
@@ -154,26 +161,15 @@ unbounded_within graph plan marks is header found =
       slice_get_within found.sources header found.listed.head.from found.listed.head.there,
     )
 
-pub unbounded_by : (image : Image) (entry : ℕ) (graph : Graph) (plan : Plan) (marks : List Mark) → IsGraph image entry graph → IsPlan graph plan →
-    marks ≡ image.marks → (header address : ℕ) → AreRegular graph plan marks (Unbounded header) →
+pub unbounded_by : (image : Image) (entry : ℕ) (graph : Graph) (plan : Plan) (recorded : ℕ → Option ℕ) → IsGraph image entry graph → IsPlan graph plan →
+    AreRecorded image.marks recorded → (header address : ℕ) → AreRegular graph plan recorded (Unbounded header) →
     address ≡ get_or plan.addresses.items header address → IsFirstUnbounded image entry address
-unbounded_by image entry graph plan marks graphed is e header address found same =
+unbounded_by image entry graph plan recorded graphed is records header address found same =
     first_unbounded image entry graph plan.addresses.items plan.table.items plan.reverse.items found.sources found.ranks
     plan.entry found.innermost found.bounds
-    (record {
-      regular = record {
-        laid = laid_of image entry graph plan graphed is;
-        ranked = found.ranked;
-        are = record { sound = found.are.sound; whole = found.are.whole };
-        kept = found.kept;
-        reversed = is.reversed;
-      };
-      inner = found.inner;
-      bounded = subst (λ (ms : List Mark). AreBounds graph.units found.innermost ms found.bounds) e found.bounded;
-      count = found.are.count ∙ is.count;
-    })
+    (known_by image entry graph plan recorded graphed is records (Unbounded header) found)
     header address
-    (slice_get-get_or plan.addresses.items header address (unbounded_within graph plan marks is header found)
+    (slice_get-get_or plan.addresses.items header address (unbounded_within graph plan recorded is header found)
     ∙ ap (λ (a : ℕ). Some a) (sym same))
     found.listed
 

@@ -15,12 +15,11 @@ use Rattle.unit_graph.specs.declared.node.Unit.{Unit as Node}
 use Rattle.unit_graph.specs.Graphs.{IsNode}
 use Rattle.loop_nest.specs.Arcs.{IsBack}
 use Rattle.loop_nest.specs.Bodies.{AreInner, Holds, IsInner}
-use Rattle.loop_nest.specs.Bounds.{Bounds, IsBySlot, IsOwn}
 use Rattle.loop_nest.specs.Listing.{IsHead}
 use Rattle.step_table.specs.Numbers.{number_of}
 use Rattle.loop_nest.specs.Ranks.{AreRanks}
 use Rattle.step_table.specs.Table.{IsMet, IsReverse, IsStep}
-use Rattle.loop_nest.proofs.Bounding.{node_is, place_is}
+use Rattle.loop_nest.proofs.Bounding.{Names, node_is, place_is}
 use Rattle.loop_nest.proofs.Bridge.{arc_back, back_arc, count_is, goes_at, goes_step, is_node, IsLaid, place_at, reached_at, same_at, step_goes}
 use Rattle.loop_nest.proofs.Dominance.{body-header, goes-reached, header-reached}
 use Rattle.loop_nest.proofs.ForwardWays.{AreToldApart}
@@ -276,33 +275,28 @@ inner_back image entry graph addresses table reverse sources ranks start innermo
 pub bounds_named : (image : Image) (entry : ℕ) (graph : Graph) (addresses : List ℕ) (table reverse sources : List (List ℕ)) (ranks : List ℕ) (start : ℕ)
     (innermost : List (Option ℕ)) → IsRegular image entry graph addresses table reverse sources ranks start →
     AreInner reverse sources ranks (length reverse) innermost → (h hd : ℕ) → slice_get addresses h ≡ Some hd → (mark : Mark) →
-    Bounds graph.units innermost mark h → IsNamedBy image entry mark hd
-bounds_named image entry graph addresses table reverse sources ranks start innermost r are h hd ath mark bounds = by_case bounds.named
-  where
-    named : (p : ℕ) (node : Node) → slice_get graph.units p ≡ Some node → slice_get innermost p ≡ Some (Some h) →
-        (mark.address ≡ node.address) ⊎ ((node.slot ≡ true) × (mark.address ≡ node.address + 4)) → IsNamedBy image entry mark hd
-    named p node there inner where_is =
-        let is : IsNode image entry node = is_node image entry graph r.laid.graphed p node there in
-        let at = place_is graph.units addresses (record { are = r.laid.are; rising = r.laid.rising }) p node there in
-        record {
-          bounds = bounds.kind;
-          address = node.address;
-          reached = is.reached;
-          unit = is.unit;
-          stands = is.stands;
-          there = subst (λ (b : Bool). (mark.address ≡ node.address) ⊎ ((b ≡ true) × (mark.address ≡ node.address + 4))) is.described.slot where_is;
-          innermost = inner_is image entry graph addresses table reverse sources ranks start r h hd p node.address ath at
-              (are.each p (Some h) inner);
-        }
-
-    by_case : IsOwn graph.units innermost mark.address h ⊎ IsBySlot graph.units innermost mark.address h → IsNamedBy image entry mark hd
-    by_case (inl own) = named own.position own.node own.there own.inner (inl own.place)
-    by_case (inr by) = named by.position by.node by.there by.inner (inr (by.slot, by.place))
+    Names graph.units innermost mark h → IsNamedBy image entry mark hd
+bounds_named image entry graph addresses table reverse sources ranks start innermost r are h hd ath mark names =
+    let node = names.node in
+    let is : IsNode image entry node = is_node image entry graph r.laid.graphed names.position node names.there in
+    let at =
+    place_is graph.units addresses (record { are = r.laid.are; rising = r.laid.rising }) names.position node names.there in
+    record {
+      bounds = names.kind;
+      address = node.address;
+      reached = is.reached;
+      unit = is.unit;
+      stands = is.stands;
+      there = subst (λ (b : Bool). (mark.address ≡ node.address) ⊎ ((b ≡ true) × (mark.address ≡ node.address + 4)))
+          is.described.slot names.place;
+      innermost = inner_is image entry graph addresses table reverse sources ranks start r h hd names.position node.address
+          ath at (are.each names.position (Some h) names.inner);
+    }
 
 pub named_bounds : (image : Image) (entry : ℕ) (graph : Graph) (addresses : List ℕ) (table reverse sources : List (List ℕ)) (ranks : List ℕ) (start : ℕ)
     (innermost : List (Option ℕ)) → IsRegular image entry graph addresses table reverse sources ranks start →
     AreInner reverse sources ranks (length reverse) innermost → (h hd : ℕ) → slice_get addresses h ≡ Some hd → (mark : Mark) →
-    IsNamedBy image entry mark hd → Bounds graph.units innermost mark h
+    IsNamedBy image entry mark hd → Names graph.units innermost mark h
 named_bounds image entry graph addresses table reverse sources ranks start innermost r are h hd ath mark named =
     let (p, atp) = place_at image entry graph addresses table start r.laid named.address named.reached in
     let (node, there, same) = node_is graph.units addresses (record { are = r.laid.are; rising = r.laid.rising }) p named.address atp in
@@ -310,7 +304,11 @@ named_bounds image entry graph addresses table reverse sources ranks start inner
     let inner = inner_back image entry graph addresses table reverse sources ranks start innermost r are h hd p named.address ath atp named.innermost in
     record {
       kind = named.bounds;
-      named = by_case p node there same inner
+      position = p;
+      node = node;
+      there = there;
+      inner = inner;
+      place = by_case node same
           (is.described.slot ∙ ap (λ (u : CodeUnit). is_some u.slot)
           (same_unit is.unit named.unit (subst (λ (x : ℕ). unit_at image x ≡ Stands is.unit) same is.stands) named.stands))
           named.there;
@@ -322,18 +320,8 @@ named_bounds image entry graph addresses table reverse sources ranks start inner
     same_unit : (u v : CodeUnit) → unit_at image named.address ≡ Stands u → unit_at image named.address ≡ Stands v → u ≡ v
     same_unit u v h k = same_stands u v (sym h ∙ k)
 
-    by_case : (p : ℕ) (node : Node) → slice_get graph.units p ≡ Some node → node.address ≡ named.address →
-        slice_get innermost p ≡ Some (Some h) → node.slot ≡ is_some named.unit.slot →
+    by_case : (node : Node) → node.address ≡ named.address → node.slot ≡ is_some named.unit.slot →
         (mark.address ≡ named.address) ⊎ ((is_some named.unit.slot ≡ true) × (mark.address ≡ named.address + 4)) →
-        IsOwn graph.units innermost mark.address h ⊎ IsBySlot graph.units innermost mark.address h
-    by_case p node there same inner slot (inl e) =
-        inl (record { position = p; node = node; there = there; place = e ∙ sym same; inner = inner })
-    by_case p node there same inner slot (inr both) =
-        inr (record {
-          position = p;
-          node = node;
-          there = there;
-          slot = slot ∙ both.0;
-          place = omega (arith, both.1, same);
-          inner = inner;
-        })
+        (mark.address ≡ node.address) ⊎ ((node.slot ≡ true) × (mark.address ≡ node.address + 4))
+    by_case node same slot (inl e) = inl (e ∙ sym same)
+    by_case node same slot (inr both) = inr (slot ∙ both.0, omega (arith, both.1, same))

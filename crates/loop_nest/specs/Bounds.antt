@@ -1,61 +1,59 @@
--- Which records bound which headers, by the positions.
-use Rattle.std.specs.Prelude.{◌≡◌, ℕ, ◌+◌, ◌≤◌, ◌⊎◌, List, length, Contains, Option, Some, None, true, min, slice_get}
+-- The bounds that records give, by the addresses at which they stand and by the positions of headers.
+use Rattle.std.specs.Prelude.{◌≡◌, ℕ, ◌+◌, ◌<◌, ◌≤◌, ◌⊎◌, List, length, Contains, Option, Some, None, true, min, slice_get}
 use Rattle.elf_mips.specs.declared.mark.Mark.{Mark}
 use Rattle.unit_graph.specs.declared.node.Unit.{Unit as Node}
-
--- What holds of a number alone, or of none.
-abbrev pub IsJust : (ℕ → Type 0) → Option ℕ → Type 0
-IsJust P None = (x : ℕ) → P x → ⊥
-IsJust P (Some one) = P one × ((x : ℕ) → P x → x ≡ one)
-
--- The unit at an address has this innermost header.
-pub record IsOwn (units : List Node) (innermost : List (Option ℕ)) (address header : ℕ) : Type 0 where
-  pub position : ℕ
-  pub node : Node
-  pub there : slice_get units position ≡ Some node
-  pub place : address ≡ node.address
-  pub inner : slice_get innermost position ≡ Some (Some header)
-
--- The unit that has its slot at an address has this innermost header.
-pub record IsBySlot (units : List Node) (innermost : List (Option ℕ)) (address header : ℕ) : Type 0 where
-  pub position : ℕ
-  pub node : Node
-  pub there : slice_get units position ≡ Some node
-  pub slot : node.slot ≡ true
-  pub place : address ≡ node.address + 4
-  pub inner : slice_get innermost position ≡ Some (Some header)
-
--- A record of kind 1 bounds the innermost header of a unit that starts at its address or has its slot there.
-pub record Bounds (units : List Node) (innermost : List (Option ℕ)) (mark : Mark) (header : ℕ) : Type 0 where
-  pub kind : mark.kind ≡ 1
-  pub named : IsOwn units innermost mark.address header ⊎ IsBySlot units innermost mark.address header
-
--- One of the records bounds a header by this number.
-pub record IsBoundOf (units : List Node) (innermost : List (Option ℕ)) (marks : List Mark) (header x : ℕ) : Type 0 where
-  pub mark : Mark
-  pub listed : Contains marks mark
-  pub bounds : Bounds units innermost mark header
-  pub same : mark.x ≡ x
 
 -- The least number of which something holds, or none.
 abbrev pub IsLeastOf : (ℕ → Type 0) → Option ℕ → Type 0
 IsLeastOf P None = (x : ℕ) → P x → ⊥
 IsLeastOf P (Some least) = P least × ((x : ℕ) → P x → least ≤ x)
 
--- For each header the least number by which one of the records bounds it.
-pub record AreBounds (units : List Node) (innermost : List (Option ℕ)) (marks : List Mark) (bounds : List (Option ℕ)) : Type 0 where
+-- The lesser one of two numbers, of which one or both may be missing.
+abbrev pub lesser_of : Option ℕ → Option ℕ → Option ℕ
+lesser_of None y = y
+lesser_of (Some x) None = Some x
+lesser_of (Some x) (Some y) = Some (min x y)
+
+-- One of the records of kind 1 at an address gives this number.
+pub record IsRecorded (marks : List Mark) (address x : ℕ) : Type 0 where
+  pub mark : Mark
+  pub listed : Contains marks mark
+  pub kind : mark.kind ≡ 1
+  pub there : mark.address ≡ address
+  pub same : mark.x ≡ x
+
+-- For each address the least number that one of the records gives, or none.
+abbrev pub AreRecorded : List Mark → (recorded : ℕ → Option ℕ) → Type 0
+AreRecorded marks recorded = (address : ℕ) → IsLeastOf (IsRecorded marks address) (recorded address)
+
+-- A number is recorded at the address of a unit, or at that of its slot.
+abbrev pub IsGiven : (recorded : ℕ → Option ℕ) → Node → ℕ → Type 0
+IsGiven recorded node x =
+    (recorded node.address ≡ Some x) ⊎ ((node.slot ≡ true) × (recorded (node.address + 4) ≡ Some x))
+
+-- A number is recorded for one of the first units, which has this innermost header.
+pub record IsBoundBy (units : List Node) (innermost : List (Option ℕ)) (recorded : ℕ → Option ℕ) (done header x : ℕ) : Type 0 where
+  pub position : ℕ
+  pub early : position < done
+  pub node : Node
+  pub there : slice_get units position ≡ Some node
+  pub inner : slice_get innermost position ≡ Some (Some header)
+  pub given : IsGiven recorded node x
+
+-- For each header the least number that is recorded for those of the first units whose innermost header it is.
+pub record AreBoundsBy (units : List Node) (innermost : List (Option ℕ)) (recorded : ℕ → Option ℕ) (done : ℕ)
+    (bounds : List (Option ℕ)) : Type 0 where
   pub count : length bounds ≡ length units
   pub each : (header : ℕ) (found : Option ℕ) → slice_get bounds header ≡ Some found →
-      IsLeastOf (IsBoundOf units innermost marks header) found
+      IsLeastOf (IsBoundBy units innermost recorded done header) found
 
--- The lesser one of a number and of one more.
-abbrev pub IsLesserOf : Option ℕ → ℕ → Option ℕ → Type 0
-IsLesserOf None x found = found ≡ Some x
-IsLesserOf (Some bound) x found = found ≡ Some (min bound x)
+-- For each header the least number that is recorded for a unit whose innermost header it is.
+abbrev pub AreBounds : List Node → (innermost : List (Option ℕ)) → (recorded : ℕ → Option ℕ) → (bounds : List (Option ℕ)) → Type 0
+AreBounds units innermost recorded bounds = AreBoundsBy units innermost recorded (length units) bounds
 
--- A header's bound, if there is one, becomes the lesser one of itself and of a number.
-pub record IsLowered (header : Option ℕ) (x : ℕ) (before later : List (Option ℕ)) : Type 0 where
+-- A header's bound, if there is a header, becomes the lesser one of itself and of another one.
+pub record IsLowered (header bound : Option ℕ) (before later : List (Option ℕ)) : Type 0 where
   pub count : length later ≡ length before
   pub other : (h : ℕ) → (header ≡ Some h → ⊥) → slice_get later h ≡ slice_get before h
   pub lesser : (h : ℕ) (old found : Option ℕ) → header ≡ Some h → slice_get before h ≡ Some old →
-      slice_get later h ≡ Some found → IsLesserOf old x found
+      slice_get later h ≡ Some found → found ≡ lesser_of old bound

@@ -1,7 +1,6 @@
 -- A function's units by their positions, and what is found of its loops.
 use Rattle.std.specs.Prelude.{◌≡◌, ℕ, ◌<◌, List, length, map, AllPairs, Option, Some, slice_get}
 use Rattle.elf_mips.specs.declared.image.Image.{Image}
-use Rattle.elf_mips.specs.declared.mark.Mark.{Mark}
 use Rattle.unit_graph.specs.declared.graph.Graph.{Graph}
 use Rattle.unit_graph.specs.declared.node.Unit.{Unit as Node}
 use Rattle.loop_nest.specs.declared.find.Answer.{Answer}
@@ -51,7 +50,7 @@ pub record IsIrregularAt (plan : Plan) (position : ℕ) : Type 0 where
   pub first : IsFirstIrregular plan.table.items sources (Some position)
 
 -- All steps but the back arcs go to lesser ranks, and the loops are listed.
-pub record AreRegular (graph : Graph) (plan : Plan) (marks : List Mark) (loops : List_of_loops) : Type 0 where
+pub record AreRegular (graph : Graph) (plan : Plan) (recorded : ℕ → Option ℕ) (loops : List_of_loops) : Type 0 where
   pub ranks : List ℕ
   pub sources : List (List ℕ)
   pub innermost : List (Option ℕ)
@@ -60,12 +59,13 @@ pub record AreRegular (graph : Graph) (plan : Plan) (marks : List Mark) (loops :
   pub are : AreBacks plan.table.items plan.entry sources
   pub kept : AreKept plan.table.items plan.entry ranks
   pub inner : AreInner plan.reverse.items sources ranks (length plan.reverse.items) innermost
-  pub bounded : AreBounds graph.units innermost marks bounds
+  pub bounded : AreBounds graph.units innermost recorded bounds
   pub listed : IsListed plan.addresses.items plan.reverse.items sources bounds loops
 
-abbrev pub IsFound : Graph → Plan → (marks : List Mark) → Found → Type 0
-IsFound graph plan marks (Irregular position) = IsIrregularAt plan position
-IsFound graph plan marks (Regular listed) = AreRegular graph plan marks listed
+-- What is found of the loops of a graph, by the bounds that are recorded.
+abbrev pub IsFound : Graph → Plan → (recorded : ℕ → Option ℕ) → Found → Type 0
+IsFound graph plan recorded (Irregular position) = IsIrregularAt plan position
+IsFound graph plan recorded (Regular listed) = AreRegular graph plan recorded listed
 
 -- The loops of a function, or their fault.
 abbrev pub IsAnswer : Image → (entry : ℕ) → Answer → Type 0

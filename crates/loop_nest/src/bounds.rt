@@ -1,139 +1,81 @@
-//! The bounds of headers, by an image's records.
+//! The bounds of headers, by what is recorded at the addresses of units.
 
-ghost use Rattle.std.specs.Prelude.{◌≡◌, ℕ, ◌<◌, ◌++◌, ◌∷◌, [], AllPairs, List, IfOk, IfSome, OnOk, length, map, replicate, None};
+ghost use Rattle.std.specs.Prelude.{◌≡◌, ◌<◌, List, IfOk, IfSome, length, replicate, None};
+ghost use Rattle.std.specs.BTreeMap.{get};
+ghost use Rattle.std.specs.Ordering.{nat_cmp};
 ghost use Rattle.loop_nest.specs.Bodies.{AreBelow};
-ghost use Rattle.loop_nest.specs.Bounds.{AreBounds, IsBySlot, IsJust, IsLesserOf, IsLowered, IsOwn};
+ghost use Rattle.loop_nest.specs.Bounds.{AreBounds, IsGiven, IsLeastOf, IsLowered, lesser_of};
 ghost use Rattle.unit_graph.specs.declared.node.Unit.{Unit};
-ghost use Rattle.elf_mips.specs.declared.mark.Mark.{Mark};
 
-use elf_mips::Mark;
+use crate::recorded::{bound_at, lesser};
 use std::alloc::{AllocError, Global};
-use step_table::position_of;
+use std::collections::BTreeMap;
 use unit_graph::Unit;
 
-/// The innermost header of the unit at an address.
-fn own_header(
-    units: &[Unit],
-    addresses: &[u32],
-    innermost: &[Option<usize>],
-    address: u32,
-) -> Option<usize>
-    requires addresses { addresses.now ≡ map (λ unit. unit.address) units.now }
-    requires rising { AllPairs (λ a b. a < b) addresses.now }
-    requires count { length innermost.now ≡ length units.now }
-    ensures { IsJust (λ header. IsOwn units.now innermost.now address header) result }
+/// The lesser one of two bounds, of which one or both may be missing.
+fn lesser_bound(bound: Option<u32>, other: Option<u32>) -> Option<u32>
+    ensures { result ≡ lesser_of bound other }
 {
-    let Some(position) = position_of(addresses, address) else {
-        return None;
-    };
-    innermost[position]
-}
-
-/// The innermost header of the unit that has its slot at an address.
-fn slot_header(
-    units: &[Unit],
-    addresses: &[u32],
-    innermost: &[Option<usize>],
-    address: u32,
-) -> Option<usize>
-    requires addresses { addresses.now ≡ map (λ unit. unit.address) units.now }
-    requires rising { AllPairs (λ a b. a < b) addresses.now }
-    requires count { length innermost.now ≡ length units.now }
-    ensures { IsJust (λ header. IsBySlot units.now innermost.now address header) result }
-{
-    let Some(start) = address.checked_sub(4) else {
-        return None;
-    };
-    let Some(position) = position_of(addresses, start) else {
-        return None;
-    };
-    if !units[position].slot {
-        return None;
-    }
-    innermost[position]
-}
-
-/// The lesser one of a bound, if there is one, and of one more.
-fn lesser(bound: Option<u32>, x: u32) -> u32
-    ensures { IsLesserOf bound x (Some result) }
-{
-    match bound {
-        Some(bound) => bound.min(x),
-        None => x,
+    match other {
+        Some(x) => Some(lesser(bound, x)),
+        None => bound,
     }
 }
 
-/// Lowers the bound of a header, if there is one, to a number.
-fn lower(bounds: &mut [Option<u32>], header: Option<usize>, x: u32)
+/// The least bound that is recorded for a unit: at its address, or at that of its slot.
+fn unit_bound(unit: &Unit, recorded: &BTreeMap<u64, u32>) -> Option<u32>
+    ensures { IsLeastOf (IsGiven (get nat_cmp recorded.now) unit.now) result }
+{
+    let address = u64::from(unit.address);
+    let own = bound_at(recorded, address);
+    if !unit.slot {
+        return own;
+    }
+    lesser_bound(own, bound_at(recorded, address + 4))
+}
+
+/// Lowers the bound of a header, if there is one.
+fn lower(bounds: &mut [Option<u32>], header: Option<usize>, bound: Option<u32>)
     requires { IfSome header (λ h. h < length bounds.old) }
-    ensures { IsLowered header x bounds.old bounds.new }
+    ensures { IsLowered header bound bounds.old bounds.new }
 {
     if let Some(header) = header {
-        bounds[header] = Some(lesser(bounds[header], x));
+        bounds[header] = lesser_bound(bounds[header], bound);
     }
 }
 
-/// Lowers the bounds of the headers that a record bounds.
-fn lower_by(
-    units: &[Unit],
-    addresses: &[u32],
-    innermost: &[Option<usize>],
-    mark: &Mark,
-    bounds: &mut [Option<u32>],
-)
-    requires addresses { addresses.now ≡ map (λ unit. unit.address) units.now }
-    requires rising { AllPairs (λ a b. a < b) addresses.now }
-    requires count { length innermost.now ≡ length units.now }
-    requires below { AreBelow (length units.now) innermost.now }
-    requires bounds { length bounds.old ≡ length units.now }
-    ensures bounds { (marks : List Mark) → AreBounds units.now innermost.now marks bounds.old →
-        AreBounds units.now innermost.now (marks ++ mark.now ∷ []) bounds.new }
-    ensures count { length bounds.new ≡ length bounds.old }
-{
-    if mark.kind != 1 {
-        return;
-    }
-    let own = own_header(units, addresses, innermost, mark.address);
-    let by_slot = slot_header(units, addresses, innermost, mark.address);
-    lower(bounds, own, mark.x);
-    lower(bounds, by_slot, mark.x);
-}
-
-/// Lowers the bounds of the headers that the records bound; none has a bound yet.
+/// Lowers the bound of each unit's innermost header by what is recorded for the unit; no header has a bound
+/// yet.
 fn lower_all(
     units: &[Unit],
-    addresses: &[u32],
     innermost: &[Option<usize>],
-    marks: &[Mark],
+    recorded: &BTreeMap<u64, u32>,
     bounds: &mut [Option<u32>],
 )
-    requires addresses { addresses.now ≡ map (λ unit. unit.address) units.now }
-    requires rising { AllPairs (λ a b. a < b) addresses.now }
     requires count { length innermost.now ≡ length units.now }
     requires below { AreBelow (length units.now) innermost.now }
     requires new { bounds.old ≡ replicate (length units.now) None }
-    ensures { AreBounds units.now innermost.now marks.now bounds.new }
+    ensures { AreBounds units.now innermost.now (get nat_cmp recorded.now) bounds.new }
 {
-    for mark in marks {
-        lower_by(units, addresses, innermost, mark, bounds);
+    for position in 0..units.len() {
+        let bound = unit_bound(&units[position], recorded);
+        lower(bounds, innermost[position], bound);
     }
 }
 
-/// For each header the least bound of the records, by two searches of the addresses for each of these.
+/// For each header the least bound that is recorded for a unit whose innermost header it is, by two searches
+/// at most for each unit.
 pub fn bounds_of(
     alloc: Global,
     units: &[Unit],
-    addresses: &[u32],
     innermost: &[Option<usize>],
-    marks: &[Mark],
+    recorded: &BTreeMap<u64, u32>,
 ) -> Result<Vec<Option<u32>>, AllocError>
-    requires addresses { addresses.now ≡ map (λ unit. unit.address) units.now }
-    requires rising { AllPairs (λ a b. a < b) addresses.now }
     requires count { length innermost.now ≡ length units.now }
     requires below { AreBelow (length units.now) innermost.now }
-    ensures { IfOk result (λ bounds. AreBounds units.now innermost.now marks.now bounds.items) }
+    ensures { IfOk result (λ bounds. AreBounds units.now innermost.now (get nat_cmp recorded.now) bounds.items) }
 {
     let mut bounds = vec![in alloc; None; units.len()]?;
-    lower_all(units, addresses, innermost, marks, &mut bounds);
+    lower_all(units, innermost, recorded, &mut bounds);
     Ok(bounds)
 }

@@ -1,6 +1,9 @@
 //! Finding the loops of functions.
 
 ghost use Rattle.std.specs.Prelude.{◌≡◌, ◌⊎◌, [], ℕ, All, IfErr, IfOk, IfSome, Some};
+ghost use Rattle.std.specs.BTreeMap.{get};
+ghost use Rattle.std.specs.Ordering.{nat_cmp};
+ghost use Rattle.elf_mips.specs.declared.image.Image.{Image};
 ghost use Rattle.net_model.specs.Faults.{HasNoFault};
 ghost use Rattle.unit_graph.specs.Graphs.{AreGraphs, IsGraph};
 ghost use Rattle.unit_graph.specs.Firsts.{IsNoEarlier};
@@ -8,8 +11,10 @@ ghost use Rattle.unit_graph.specs.Firsts.{IsNoEarlier};
 use crate::listing::Listed;
 use crate::nest::{Loop, Nests};
 use crate::plan::{Found, find_in, plan_of};
+use crate::recorded::recorded_bounds;
 use elf_mips::Image;
 use std::alloc::{AllocError, Global};
+use std::collections::BTreeMap;
 use unit_graph::{CodeFault, CodeKind, Graph, Graphs, Offence, earlier};
 use wcet_io::List;
 
@@ -22,16 +27,22 @@ enum Answer {
     Fault(CodeKind, u32),
 }
 
+ghost use Rattle.loop_nest.specs.Bounds.{AreRecorded};
 ghost use Rattle.loop_nest.specs.Plans.{IsAnswer};
 ghost use Rattle.loop_nest.specs.Programs.{AreNests, IsFoundIn, TellsFault};
 
 /// The loops of a function, or their fault.
-fn answer_of(alloc: Global, graph: &Graph, image: &Image) -> Result<Answer, AllocError>
-    requires { (entry : ℕ) × IsGraph image.now entry graph.now }
-    ensures { IfOk result (λ answer. (entry : ℕ) → IsGraph image.now entry graph.now → IsAnswer image.now entry answer) }
+fn answer_of(
+    alloc: Global,
+    graph: &Graph,
+    recorded: &BTreeMap<u64, u32>,
+) -> Result<Answer, AllocError>
+    requires { (image : Image) × (entry : ℕ) × IsGraph image entry graph.now }
+    ensures { IfOk result (λ answer. (image : Image) (entry : ℕ) → IsGraph image entry graph.now →
+        AreRecorded image.marks (get nat_cmp recorded.now) → IsAnswer image entry answer) }
 {
     let plan = plan_of(alloc, graph)?;
-    match find_in(alloc, graph, &plan, image.marks.as_slice())? {
+    match find_in(alloc, graph, &plan, recorded)? {
         Found::Irregular(position) => Ok(Answer::Fault(
             CodeKind::Irreducible,
             plan.addresses[position],
@@ -60,16 +71,17 @@ fn first_of(first: Option<Offence>, offence: Offence) -> Offence
 fn nests_in(
     alloc: Global,
     graphs: &[Graph],
-    image: &Image,
+    recorded: &BTreeMap<u64, u32>,
     nests: &mut List<List<Loop>>,
 ) -> Result<Option<Offence>, AllocError>
-    requires graphs { All (λ g. IsGraph image.now g.entry g) graphs.now }
+    requires graphs { (image : Image) × All (λ g. IsGraph image g.entry g) graphs.now }
     requires empty { nests.old ≡ [] }
-    ensures { IfOk result (IsFoundIn image.now graphs.now nests.new) }
+    ensures { IfOk result (λ first. (image : Image) → All (λ g. IsGraph image g.entry g) graphs.now →
+        AreRecorded image.marks (get nat_cmp recorded.now) → IsFoundIn image graphs.now nests.new first) }
 {
     let mut first = None;
     for graph in graphs {
-        let (kind, place) = match answer_of(alloc, graph, image)? {
+        let (kind, place) = match answer_of(alloc, graph, recorded)? {
             Answer::Loops(loops) => {
                 nests.push(loops)?;
                 continue;
@@ -83,18 +95,19 @@ fn nests_in(
 
 /// The loops of each function, with the bounds that the image's records give, in the order of the graphs.
 ///
-/// `Bad` is the least unit of some function on a cycle that isn't entered at one header alone, or else the
-/// least header of a loop without a bound. The time is in proportion to a function's units and arcs and to
-/// the bodies of its loops, thus to its units times the depth of its loops, but for sorting and for looking
-/// up addresses. Only where a function has a cycle that isn't entered at one header alone, it is in
-/// proportion to its units times its arcs at most.
+/// `Bad` is the least unit that lies on a cycle that has no back arc in some function, or else the least
+/// header of a loop without a bound. The records are looked at once. A function takes time in proportion to
+/// its units and arcs and to the bodies of its loops, thus to its units times the depth of its loops, but
+/// for sorting and for looking up addresses. Only where some unit of it lies on a cycle that has no back arc,
+/// it takes time in proportion to its units times its arcs at most.
 pub fn find_loops(alloc: Global, graphs: &Graphs, image: &Image) -> Result<Nests, CodeFault>
     requires graphs { (entry : ℕ) × AreGraphs image.now entry graphs.now × HasNoFault image.now entry }
     ensures nests { IfOk result (AreNests image.now graphs.now) }
     ensures bad { IfErr result (λ fault. (entry : ℕ) → AreGraphs image.now entry graphs.now → TellsFault image.now entry fault) }
 {
+    let recorded = recorded_bounds(alloc, image.marks.as_slice())?;
     let mut nests = List::new(alloc);
-    if let Some(first) = nests_in(alloc, graphs.graphs.as_slice(), image, &mut nests)? {
+    if let Some(first) = nests_in(alloc, graphs.graphs.as_slice(), &recorded, &mut nests)? {
         return Err(CodeFault::Bad {
             kind: first.kind,
             address: first.place,

@@ -9,6 +9,7 @@ mod listing;
 mod nest;
 mod plan;
 mod ranks;
+mod recorded;
 mod removal;
 mod retreats;
 mod table;

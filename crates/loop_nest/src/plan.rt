@@ -1,6 +1,8 @@
 //! The units of a function by their positions, and what is found of its loops.
 
 ghost use Rattle.std.specs.Prelude.{◌≡◌, ℕ, true, IfOk};
+ghost use Rattle.std.specs.BTreeMap.{get};
+ghost use Rattle.std.specs.Ordering.{nat_cmp};
 ghost use Rattle.elf_mips.specs.declared.image.Image.{Image};
 ghost use Rattle.unit_graph.specs.Graphs.{IsGraph};
 
@@ -12,8 +14,8 @@ use crate::ranks::ranks_of;
 use crate::removal::backs_of;
 use crate::retreats::{are_backs, retreats_of};
 use crate::table::{addresses_of, table_of};
-use elf_mips::Mark;
 use std::alloc::{AllocError, Global};
+use std::collections::BTreeMap;
 use step_table::{position_of, reverse_of};
 use unit_graph::Graph;
 use wcet_io::List;
@@ -72,18 +74,18 @@ fn regular_loops(
     plan: &Plan,
     ranks: &[usize],
     sources: &[List<usize>],
-    marks: &[Mark],
+    recorded: &BTreeMap<u64, u32>,
 ) -> Result<Listed, AllocError>
     requires plan { IsPlan graph.now plan.now }
     requires ranks { AreRanks plan.now.table.items plan.now.entry ranks.now }
     requires backs { AreBacks plan.now.table.items plan.now.entry sources.now }
     requires kept { AreKept plan.now.table.items plan.now.entry ranks.now }
     requires sources { IsWithin sources.now }
-    ensures { IfOk result (AreRegular graph.now plan.now marks.now) }
+    ensures { IfOk result (AreRegular graph.now plan.now (get nat_cmp recorded.now)) }
 {
     let units = graph.units.as_slice();
     let innermost = innermost_of(alloc, &plan.reverse, sources, ranks)?;
-    let bounds = bounds_of(alloc, units, &plan.addresses, &innermost, marks)?;
+    let bounds = bounds_of(alloc, units, &innermost, recorded)?;
     let listed = list_loops(alloc, &plan.addresses, &plan.reverse, sources, &bounds)?;
     Ok(listed)
 }
@@ -105,15 +107,15 @@ pub fn find_in(
     alloc: Global,
     graph: &Graph,
     plan: &Plan,
-    marks: &[Mark],
+    recorded: &BTreeMap<u64, u32>,
 ) -> Result<Found, AllocError>
     requires { IsPlan graph.now plan.now }
-    ensures { IfOk result (IsFound graph.now plan.now marks.now) }
+    ensures { IfOk result (IsFound graph.now plan.now (get nat_cmp recorded.now)) }
 {
     let ranks = ranks_of(alloc, &plan.table, plan.entry)?;
     let steps = retreats_of(alloc, &plan.reverse, &ranks)?;
     if are_backs(alloc, &plan.reverse, &steps, plan.entry)? {
-        let listed = regular_loops(alloc, graph, plan, &ranks, &steps, marks)?;
+        let listed = regular_loops(alloc, graph, plan, &ranks, &steps, recorded)?;
         return Ok(Found::Regular(listed));
     }
     let position = irregular_of(alloc, plan, &steps)?;

@@ -7,7 +7,7 @@ use Rattle.loop_nest.proofs.plan.regular_loops.Goals as goal
 
 pub bounds_of-requires-clause-below : goal.bounds_of-requires-clause-below
 bounds_of-requires-clause-below c =
-    subst (AreBelow (length c.as_slice-units.result.now)) (sym c.deref-3.ensures.value)
+    subst (AreBelow (length c.as_slice-units.result.now)) (sym c.deref-2.ensures.value)
     (below_all c.deref.result.now c.args.sources.now c.args.ranks.now (length c.deref.result.now)
     (length c.as_slice-units.result.now) c.in_ok-innermost.innermost.items c.in_ok-innermost.ensures
     (omega (

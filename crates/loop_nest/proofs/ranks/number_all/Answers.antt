@@ -1,4 +1,4 @@
-use Rattle.std.proofs.Common.{◌∷◌, ◌++◌, ◌*◌, [], List, ℕ, ap, ◌∙◌, length, refl, subst, set, slice_set, arith}
+use Rattle.std.proofs.Common.{◌∷◌, ◌++◌, ◌*◌, [], List, ℕ, ap, ◌∙◌, length, refl, subst, slice_set, arith}
 use Rattle.loop_nest.specs.Ranks.{IsWalk}
 use Rattle.step_table.proofs.Meeting.{empty_by}
 use Rattle.loop_nest.proofs.Ranking.{last_within, looked_kept, looked_start, walk_end, walk_start}
