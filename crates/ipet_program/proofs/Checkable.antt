@@ -74,7 +74,7 @@ small-loop bound true false h = small-from (pos 1 -ℤ pos bound *ℤ pos 0) (om
 small-loop bound false true h = small-from (pos 0 -ℤ pos bound *ℤ pos 1) (omega (arith, ints)) (omega (arith, ints))
 small-loop bound false false h = small-from (pos 0 -ℤ pos bound *ℤ pos 0) (omega (arith, ints)) (omega (arith, ints))
 
-small-row : (equal : Bool) (factor : ℕ → ℤ) (n right : ℕ) → n ≤ 2 ^ 25 → right ≤ 1 →
+small-row : (equal : Bool) (factor : ℕ → ℤ) (n right : ℕ) → n ≤ 2 ^ 28 → right ≤ 1 →
     ((column : ℕ) → IsSmall (factor column)) →
     IsSmallRow n (record { equal = equal; terms = terms_of factor n; right = pos right })
 small-row equal factor n right few low small =
@@ -84,7 +84,7 @@ small-row equal factor n right few low small =
       right = above right (omega arith);
     }
 
-small-loop_row : (arcs : List NetArc) (held : ℕ → Bool) (found : Option LoopInst) → length arcs ≤ 2 ^ 25 →
+small-loop_row : (arcs : List NetArc) (held : ℕ → Bool) (found : Option LoopInst) → length arcs ≤ 2 ^ 28 →
     ((inst : LoopInst) → found ≡ Some inst → inst.bound < 2 ^ 32) → IsSmallRow (length arcs)
     (loop_row_of arcs held found)
 small-loop_row arcs held None few bounds =
@@ -98,7 +98,7 @@ small-loop_row arcs held (Some inst) few bounds =
     (λ column. small-loop inst.bound (comes_to inst.header (item_at column arcs))
     (is_entering held inst.header (item_at column arcs)) (bounds inst refl))
 
-small-rows : (net : Net) (holds : ℕ → ℕ → Bool) → length net.arcs ≤ 2 ^ 25 →
+small-rows : (net : Net) (holds : ℕ → ℕ → Bool) → length net.arcs ≤ 2 ^ 28 →
     All (λ (inst : LoopInst). inst.bound < 2 ^ 32) net.loops → All (IsSmallRow (length net.arcs)) (rows_of net holds)
 small-rows net holds few bounds =
     let small : Row → Type 0 = IsSmallRow (length net.arcs) in
@@ -115,7 +115,7 @@ small-rows net holds few bounds =
     (λ scope low high. small-loop_row net.arcs (holds scope) (item_at scope net.loops) few
     (λ inst there. item_at-all (λ (i : LoopInst). i.bound < 2 ^ 32) net.loops scope inst bounds there))))
 
-pub is-checkable : (net : Net) (holds : ℕ → ℕ → Bool) (program : Program) → length net.arcs ≤ 2 ^ 25 →
+pub is-checkable : (net : Net) (holds : ℕ → ℕ → Bool) (program : Program) → length net.arcs ≤ 2 ^ 28 →
     All (λ (inst : LoopInst). inst.bound < 2 ^ 32) net.loops → program.columns ≡ length net.arcs →
     program.rows ≡ rows_of net holds → All IsSmall program.value → length program.value ≡ length net.arcs →
     length program.caps ≡ length net.arcs → IsCheckable program

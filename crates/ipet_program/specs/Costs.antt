@@ -40,7 +40,3 @@ price_limit = 5000000
 pub record IsStanding (unit : CodeUnit) : Type 0 where
   pub valid : IsValid unit.instr
   pub slot : IfSome unit.slot (λ slot. IsValid slot × (is_transfer unit.instr ≡ true))
-
-abbrev pub IfStanding : Content → Type 0
-IfStanding (Stands unit) = IsStanding unit
-IfStanding (Fault kind place) = Unit {0}

@@ -1,5 +1,5 @@
--- Nets whose places' numbers rise along each arc but the back arcs. They are nested (`nested-forward` of
--- proofs/ForwardNets.antt).
+-- Nets without accesses whose places' numbers rise along each arc but the back arcs. They are nested (`nested-forward`
+-- of proofs/ForwardNets.antt).
 use Rattle.std.specs.Prelude.{◌≡◌, ℕ, ◌<◌, ◌≤◌, ◌⊎◌, List, [], length, Some, All}
 use Rattle.flow_net.specs.Nested.{IsBack}
 use Rattle.flow_net.specs.Numbers.{IsNumberOf, IsNumberOrZero, item_at}

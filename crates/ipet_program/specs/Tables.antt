@@ -75,7 +75,7 @@ AreCaps net caps =
     (holds : ℕ → ℕ → Bool) → TellsHeld net holds →
     caps ≡ numbered (λ column. arc_cap net holds (item_at column net.arcs)) (length net.arcs)
 
--- The loops round each place let it be visited less often than the limit of the crude bound.
+-- The loops round each place let it be visited at most as often as the limit of the crude bound says.
 abbrev pub AreLow : Net → Type 0
 AreLow net =
     (holds : ℕ → ℕ → Bool) → TellsHeld net holds → (place : ℕ) → IsNumberOf net.places place →

@@ -30,7 +30,7 @@ fn program_of(
     turns: &[u128],
 ) -> Result<Program, AllocError>
     requires nested { IsNested net.now }
-    requires few { length net.now.arcs ≤ 2 ^ 25 }
+    requires few { length net.now.arcs ≤ 2 ^ 28 }
     requires bounds { All (λ inst. inst.bound < 2 ^ 32) net.now.loops }
     requires count { length prices.now ≡ length net.now.places }
     requires priced { All IsPrice prices.now }
@@ -67,7 +67,7 @@ pub fn build(
 ) -> Result<Program, BuildFault>
     requires nested { IsNested net.now }
     requires fits { FitsImage image.now net.now }
-    requires few { length net.now.arcs ≤ 2 ^ 25 }
+    requires few { length net.now.arcs ≤ 2 ^ 28 }
     requires rows { HasRows net.now classes.now }
     ensures program { IfOk result (IsProgramOf net.now (place_price profile.now image.now net.now)) }
     ensures checkable { IfOk result IsCheckable }

@@ -79,7 +79,7 @@ fn add_arc(net: &Net, rows: &mut [Row], column: u32, arc: NetArc) -> Result<(), 
 /// Adds the arcs to rows without terms.
 fn add_arcs(net: &Net, rows: &mut [Row]) -> Result<(), AllocError>
     requires nested { IsNested net.now }
-    requires few { length net.now.arcs ≤ 2 ^ 25 }
+    requires few { length net.now.arcs ≤ 2 ^ 28 }
     requires count { length rows.old ≡ length net.now.loops }
     requires none { AreLoopRows net.now 0 rows.old }
     ensures rows { OnOk result (AreLoopRows net.now (length net.now.arcs) rows.new) }
@@ -94,7 +94,7 @@ fn add_arcs(net: &Net, rows: &mut [Row]) -> Result<(), AllocError>
 /// The row of each loop instance.
 pub fn loop_rows(alloc: Global, net: &Net) -> Result<Vec<Row>, AllocError>
     requires nested { IsNested net.now }
-    requires few { length net.now.arcs ≤ 2 ^ 25 }
+    requires few { length net.now.arcs ≤ 2 ^ 28 }
     ensures rows { IfOk result (λ rows. (holds : ℕ → ℕ → Bool) → TellsHeld net.now holds →
         rows.items ≡ numbered (loop_row net.now holds) (length net.now.loops)) }
 {

@@ -29,7 +29,7 @@ fn add_arc(rows: &mut [Row], column: u32, arc: NetArc) -> Result<(), AllocError>
 fn add_arcs(rows: &mut [Row], arcs: &[NetArc]) -> Result<(), AllocError>
     requires starts { All (λ arc. IsNumberOrZero rows.old arc.from) arcs.now }
     requires ends { All (λ arc. IsNumberOrZero rows.old arc.to) arcs.now }
-    requires few { length arcs.now ≤ 2 ^ 25 }
+    requires few { length arcs.now ≤ 2 ^ 28 }
     requires none { rows.old ≡ numbered (place_row_to arcs.now 0) (length rows.old) }
     ensures rows { OnOk result (rows.new ≡ numbered (place_row arcs.now) (length rows.old)) }
 {
@@ -43,7 +43,7 @@ fn add_arcs(rows: &mut [Row], arcs: &[NetArc]) -> Result<(), AllocError>
 pub fn place_rows(alloc: Global, net: &Net) -> Result<Vec<Row>, AllocError>
     requires starts { All (λ arc. IsNumberOrZero net.now.places arc.from) net.now.arcs }
     requires ends { All (λ arc. IsNumberOrZero net.now.places arc.to) net.now.arcs }
-    requires few { length net.now.arcs ≤ 2 ^ 25 }
+    requires few { length net.now.arcs ≤ 2 ^ 28 }
     ensures rows { IfOk result (λ rows.
         rows.items ≡ numbered (place_row net.now.arcs) (length net.now.places)) }
 {

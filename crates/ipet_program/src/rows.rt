@@ -31,7 +31,7 @@ fn entry_row(alloc: Global) -> Result<Row, AllocError>
 /// The entry's row, one for each place, and one for each loop instance.
 pub fn rows_of(alloc: Global, net: &Net) -> Result<List<Row>, AllocError>
     requires nested { IsNested net.now }
-    requires few { length net.now.arcs ≤ 2 ^ 25 }
+    requires few { length net.now.arcs ≤ 2 ^ 28 }
     ensures rows { IfOk result (AreRows net.now) }
 {
     let mut places = place_rows(alloc, net)?;

@@ -10,11 +10,6 @@ use Rattle.nest_solver.proofs.Times.{Each, bit_other}
 use Rattle.nest_solver.proofs.Arcs.{goes_on-out, closes-out, back-of, deeper, not_back-0}
 use Rattle.nest_solver.proofs.Solving.{closes_not_entering}
 
--- A way begins with an arc that ends it, or goes on behind its first arc.
-abbrev pub Rest : (s : Shape) (depth : ℕ) (round : ℕ → ℕ) (k : ℕ) → List ℕ → Type 0
-Rest s depth round k ks = ((closes s depth k ≡ true) × (ks ≡ []))
-    ⊎ ((goes_on s depth round k ≡ true) × IsWay s depth round (s.to k) ks)
-
 -- Where a way of a depth stays, and where it ends.
 pub record Stays (s : Shape) (depth : ℕ) (round : ℕ → ℕ) (Q : ℕ → Type 0) (end : ℕ) : Type 0 where
   pub low : (p : ℕ) → Q p → 0 < p

@@ -65,7 +65,7 @@ total-in net price program depths headed turns round best choice total nested ha
 
 -- The leaf of the worths of all levels shows the greatest value.
 pub leaf-greatest : (net : Net) (price : ℕ → ℕ) (program : Program) (depths headed turns round best choice worth : ℕ → ℕ)
-    (depth total : ℕ) (leaf : Leaf) → IsNested net → length net.arcs ≤ 2 ^ 25 → HasDepths net depths →
+    (depth total : ℕ) (leaf : Leaf) → IsNested net → length net.arcs ≤ 2 ^ 28 → HasDepths net depths →
     HasHeaders net headed → IsProgramOf net price program →
     AreSolved (shape_of net depths headed) (value_at_end (shape_of net depths headed) price) turns 1 →
     IsRound (shape_of net depths headed) 0 round →
@@ -73,7 +73,7 @@ pub leaf-greatest : (net : Net) (price : ℕ → ℕ) (program : Program) (depth
     (weight_of (shape_of net depths headed) (value_at_end (shape_of net depths headed) price) turns) best choice →
     total ≡ weight_of (shape_of net depths headed) (value_at_end (shape_of net depths headed) price) turns 1
     + best ((shape_of net depths headed).to 1) - 1 →
-    ((l : ℕ) → IsUpTo (length net.loops) l → depths l ≤ depth) → depth ≤ 2 ^ 26 →
+    ((l : ℕ) → IsUpTo (length net.loops) l → depths l ≤ depth) → depth ≤ 2 ^ 29 →
     AreWorths (shape_of net depths headed)
     (weight_of (shape_of net depths headed) (value_at_end (shape_of net depths headed) price) turns) turns depth total
     worth →

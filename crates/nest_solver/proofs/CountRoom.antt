@@ -89,19 +89,6 @@ counted-small s value turns depth total path ways counts nest costly is are coun
       mul-le-mul_right (counts k) (costly k v low),
     )
 
--- Nor are the times that a turn comes again.
-pub counted-times : (s : Shape) (often counts : ℕ → ℕ) (turned : ℕ → List ℕ) (l k : ℕ) (ks : List ℕ) →
-    IsUpTo s.loops l → turned l ≡ k ∷ ks → (s.bound l - 1) * often l ≤ put_back s often turned counts k
-counted-times s often counts turned l k ks u is =
-    omega (
-      arith,
-      sum-part s.loops l (λ j. ((s.bound j - 1) * often j) * times (turned j) k) u,
-      mul-le-mul_left ((s.bound l - 1) * often l) some,
-    )
-  where
-    some : 1 ≤ times (turned l) k
-    some = subst (λ (way : List ℕ). 1 ≤ times way k) (sym is) (omega (arith, bit_same k k refl))
-
 -- So with the turns of a depth put back each count is at most that value, and each count in between too.
 pub counted-room : (s : Shape) (value turns : ℕ → ℕ) (depth total : ℕ) (path : List ℕ) (ways turned : ℕ → List ℕ)
     (counts : ℕ → ℕ) → IsNest s → ((i : ℕ) → IsUpTo s.arcs i → 0 < s.to i → 1 ≤ value i) →

@@ -17,88 +17,6 @@ use Rattle.nest_solver.proofs.Worths.{base-zero, base-live, base-dead, lift-smal
 use Rattle.nest_solver.proofs.Priced.{priced, carried}
 use Rattle.nest_solver.proofs.Room.{room-level, fits-end, priced_all, in_one}
 
--- ---- Weights.
--- Where no loop turns, an arc weighs its value.
-pub weights-none : (s : Shape) (value turns : ℕ → ℕ) (i : ℕ) → IsNest s →
-    ((l : ℕ) → IsUpTo s.loops l → turns l ≡ 0) → weight_of s value turns i ≡ value i
-weights-none s value turns i nest none =
-    elim (cases_Bool (is_entering s i)) as (λ _. weight_of s value turns i ≡ value i) [
-      | inr out ↦ omega (arith, paid-none s turns i out)
-      | inl into ↦ omega (
-        arith,
-        paid-some s turns i into,
-        ap (λ t. (s.bound (target s i) - 1) * t) (none (target s i) (entering-of s nest i into).up),
-      )
-    ]
-
--- With the turns of one depth, those arcs weigh more that enter a loop of that depth.
-pub weights-level : (s : Shape) (value best before after : ℕ → ℕ) (depth i : ℕ) → IsNest s →
-    AreTurns s depth best before after →
-    ((l : ℕ) → IsUpTo s.loops l → s.depth l ≡ depth → before l ≡ 0) →
-    weight_of s value after i
-    ≡ weight_of s value before i
-    + cond (is_entering s i && (s.depth (target s i) == depth))
-    ((s.bound (target s i) - 1) * (best (s.header (target s i)) - 1)) 0
-weights-level s value best before after depth i nest turns fresh =
-    elim (cases_Bool (is_entering s i))
-    as (λ _. weight_of s value after i
-    ≡ weight_of s value before i
-    + cond (is_entering s i && (s.depth (target s i) == depth))
-    ((s.bound (target s i) - 1) * (best (s.header (target s i)) - 1)) 0) [
-      | inr out ↦ omega (
-        arith,
-        paid-none s after i out,
-        paid-none s before i out,
-        none (is_entering s i) (s.depth (target s i) == depth)
-            ((s.bound (target s i) - 1) * (best (s.header (target s i)) - 1)) out,
-      )
-      | inl into ↦
-          let up = (entering-of s nest i into).up in
-          elim (cases_eq (s.depth (target s i)) depth)
-          as (λ _. weight_of s value after i
-          ≡ weight_of s value before i
-          + cond (is_entering s i && (s.depth (target s i) == depth))
-          ((s.bound (target s i) - 1) * (best (s.header (target s i)) - 1)) 0) [
-            | inl e ↦ omega (
-              arith,
-              paid-some s after i into,
-              paid-some s before i into,
-              ap (λ t. (s.bound (target s i) - 1) * t) (fresh (target s i) up e),
-              ap (λ t. (s.bound (target s i) - 1) * t)
-                  (turns (target s i) up
-                  ∙ here (s.depth (target s i)) (best (s.header (target s i)) - 1) (before (target s i)) e),
-              whole (is_entering s i) (s.depth (target s i))
-                  ((s.bound (target s i) - 1) * (best (s.header (target s i)) - 1)) into e,
-            )
-            | inr n ↦ omega (
-              arith,
-              paid-some s after i into,
-              paid-some s before i into,
-              ap (λ t. (s.bound (target s i) - 1) * t)
-                  (turns (target s i) up
-                  ∙ other (s.depth (target s i)) (best (s.header (target s i)) - 1) (before (target s i)) n),
-              nothing (is_entering s i) (s.depth (target s i))
-                  ((s.bound (target s i) - 1) * (best (s.header (target s i)) - 1)) n,
-            )
-          ]
-    ]
-  where
-    none : (a b : Bool) (x : ℕ) → a ≡ false → cond (a && b) x 0 ≡ 0
-    none a b x e = grind arith
-
-    here : (deep r b : ℕ) → deep ≡ depth → cond (deep == depth) r b ≡ r
-    here deep r b e = grind (arith, nat_tests)
-
-    other : (deep r b : ℕ) → (deep ≡ depth → ⊥) → cond (deep == depth) r b ≡ b
-    other deep r b n = grind (arith, nat_tests)
-
-    whole : (a : Bool) (deep x : ℕ) → a ≡ true → deep ≡ depth → cond (a && (deep == depth)) x 0 ≡ x
-    whole a deep x e f = grind (arith, nat_tests)
-
-    nothing : (a : Bool) (deep x : ℕ) → (deep ≡ depth → ⊥) → cond (a && (deep == depth)) x 0 ≡ 0
-    nothing true deep x n = grind (arith, nat_tests)
-    nothing false deep x n = refl
-
 -- ---- A level swept again.
 -- The loop of a depth round a place is one.
 pub round-same : (s : Shape) (depth : ℕ) (one other : ℕ → ℕ) (p : ℕ) → IsRound s depth one → IsRound s depth other →
@@ -185,7 +103,7 @@ lift-low s round best turns worth depth p short small =
 -- So the numbers of a leaf are small.
 pub small-numbers : (s : Shape) (price turns worth : ℕ → ℕ) (depth limit total : ℕ) → IsNest s →
     IsCrude s price limit → AreSolved s (value_at_end s price) turns 1 → limit ≤ 2 ^ 63 - 1 → total ≤ limit →
-    s.arcs ≤ 2 ^ 25 → depth ≤ 2 ^ 26 → ((q : ℕ) → worth q ≤ 2 ^ 63 * (s.arcs + 2 + depth)) →
+    s.arcs ≤ 2 ^ 28 → depth ≤ 2 ^ 29 → ((q : ℕ) → worth q ≤ 2 ^ 63 * (s.arcs + 2 + depth)) →
     AreSmall s total worth turns
 small-numbers s price turns worth depth limit total nest crude solved low shown few deep small =
     record {

@@ -1,15 +1,17 @@
 -- A nested net has no more places and loops than arcs.
-use Rattle.std.proofs.Common.{◌≡◌, ℕ, zero, suc, ◌+◌, ◌≤◌, ◌==◌, List, [], ◌∷◌, length, refl, ap, ◌∙◌, subst, inl, inr, arith}
+use Rattle.std.proofs.Common.{◌≡◌, ℕ, zero, suc, ◌+◌, ◌^◌, ◌≤◌, ◌==◌, List, [], ◌∷◌, length, refl, ap, ◌∙◌, subst, inl, inr, arith}
 use Rattle.std.proofs.lemmas.Bool.{cases_eq}
 use Rattle.flow_net.specs.Nested.{IsNested}
 use Rattle.flow_net.specs.Paths.{IsPath, IsRunPath}
 use Rattle.flow_net.specs.declared.net.Net.{Net}
+use Rattle.flow_net.specs.Numbers.{item_at}
 use Rattle.flow_net.proofs.Numbers.{item_at-within}
-use Rattle.flow_net.proofs.Headers.{enters-each}
+use Rattle.flow_net.proofs.Headers.{enters-each, header-scope}
 use Rattle.ipet_program.specs.Sums.{sum_to}
-use Rattle.nest_solver.specs.Nets.{HasDepths, HasHeaders, shape_of}
+use Rattle.nest_solver.specs.Nets.{scope_of, shape_of}
 use Rattle.nest_solver.specs.Shape.{Shape, IsUpTo}
 use Rattle.nest_solver.specs.Counted.{bit}
+use Rattle.nest_solver.specs.Tables.{IsFew}
 use Rattle.nest_solver.proofs.Sums.{sum-le, sum-none, sum-swap, sum-part}
 use Rattle.nest_solver.proofs.Times.{bit_same, bit_other}
 use Rattle.nest_solver.proofs.NetShape.{loop-at}
@@ -65,24 +67,34 @@ run_last net depth headed (number ∷ numbers) to path =
     path_last net depth headed path.1.0.to numbers to path.1.3
     (number, (within.from_one, within.within), ap target_of path.1.1)
 
-pub places-few : (net : Net) → IsNested net → length net.places ≤ length net.arcs
+places-few : (net : Net) → IsNested net → length net.places ≤ length net.arcs
 places-few net nested =
     few_by (length net.arcs) (length net.places) (shape_of net (λ l. 0) (λ p. 0)).to
     (λ p u. let path = nested.entered.reached p (record { from_one = u.0; within = u.1 }) in
     run_last net (λ l. 0) (λ p. 0) path.0 p path.1)
 
--- Each loop is entered, at its own header.
-pub loops-few : (net : Net) (depth headed : ℕ → ℕ) → IsNested net → HasDepths net depth → HasHeaders net headed →
-    length net.loops ≤ length net.arcs
-loops-few net depth headed nested depths headers =
-    few_by (length net.arcs) (length net.loops) (λ i. headed ((shape_of net depth headed).to i))
+-- Each loop is entered, at its own header, whose innermost scope it is.
+loops-few : (net : Net) → IsNested net → length net.loops ≤ length net.arcs
+loops-few net nested =
+    few_by (length net.arcs) (length net.loops) (λ i. scope_of (item_at (target_of (item_at i net.arcs)) net.places))
     (λ l u. let loop = loop-at net l u in
     let enters = enters-each net nested l loop.item loop.there in
     let within = item_at-within net.arcs enters.number enters.arc enters.there in
     let end : enters.arc.to ≡ loop.item.header =
-    nested.entering enters.number l enters.arc loop.item enters.there loop.there enters.inside enters.outside in (
+    nested.entering enters.number l enters.arc loop.item enters.there loop.there enters.inside enters.outside in
+    let held = nested.held l loop.item loop.there in (
       enters.number,
       (within.from_one, within.within),
-      ap (λ found. headed (target_of found)) enters.there
-          ∙ ap headed end ∙ headers.own l loop.item loop.there,
+      ap (λ found. scope_of (item_at (target_of found) net.places)) enters.there
+          ∙ ap (λ (p : ℕ). scope_of (item_at p net.places)) end
+          ∙ ap scope_of held.there
+          ∙ header-scope net nested l loop.item held.place loop.there held.there,
     ))
+
+-- So few arcs are enough.
+pub few_of : (net : Net) → IsNested net → length net.arcs ≤ 2 ^ 28 → IsFew net
+few_of net nested few = record {
+  arcs = few;
+  places = omega (arith, few, places-few net nested);
+  loops = omega (arith, few, loops-few net nested);
+}

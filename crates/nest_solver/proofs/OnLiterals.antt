@@ -1,5 +1,5 @@
 -- A loop within a loop, and its program, written out: the net is nested, and the program is that of the net.
-use Rattle.std.proofs.Common.{◌≡◌, ℕ, zero, suc, ◌≤◌, List, [], ◌∷◌, true, false, refl, subst, sym, arith}
+use Rattle.std.proofs.Common.{◌≡◌, ℕ, zero, suc, ◌^◌, ◌≤◌, List, [], ◌∷◌, length, true, false, refl, subst, sym, arith}
 use Rattle.flow_net.specs.Nested.{IsNested}
 use Rattle.flow_net.specs.Numbers.{IsNumberOf}
 use Rattle.flow_net.specs.declared.net.Net.{Net}
@@ -8,7 +8,6 @@ use Rattle.ipet_program.specs.declared.program.Program.{Program}
 use Rattle.ipet_program.specs.declared.program.Row.{Row}
 use Rattle.ipet_program.specs.declared.program.Term.{Term}
 use Rattle.nest_solver.specs.Nets.{IsProgramOfNet, holds_of}
-use Rattle.nest_solver.specs.Tables.{IsFew}
 use Rattle.nest_solver.proofs.NetShape.{held-told}
 use lib.IntN.{ℤ, pos, negsuc}
 
@@ -70,13 +69,13 @@ two_program_of = record {
 -- What is known of a net and a program that are these.
 pub record AreTwo (net : Net) (program : Program) : Type 0 where
   pub nested : IsNested net
-  pub few : IsFew net
+  pub few : length net.arcs ≤ 2 ^ 28
   pub program_of : IsProgramOfNet net program
 
 are_two : AreTwo two_loops two_program
 are_two = record {
   nested = nested_two_loops;
-  few = record { arcs = omega arith; places = omega arith; loops = omega arith };
+  few = omega arith;
   program_of = two_program_of;
 }
 
@@ -95,7 +94,7 @@ pub two_all : (net : Net) (program : Program) → net.contexts ≡ two_loops.con
     net.arcs ≡ two_loops.arcs → net.loops ≡ two_loops.loops → net.accesses ≡ two_loops.accesses →
     program.columns ≡ 5 → program.rows ≡ two_rows → program.value ≡ two_program.value →
     program.caps ≡ two_program.caps → program.stages ≡ [] →
-    IsNested net × IsFew net × IsProgramOfNet net program
+    IsNested net × (length net.arcs ≤ 2 ^ 28) × IsProgramOfNet net program
 two_all net program a b c d e f g h i j =
     let are = two net program a b c d e f g h i j in
     (are.nested, are.few, are.program_of)

@@ -6,9 +6,9 @@ use Rattle.flow_net.specs.declared.net.LoopInst.{LoopInst}
 use Rattle.flow_net.specs.declared.net.Net.{Net}
 use Rattle.flow_net.proofs.Numbers.{item_at-within, item_at-same}
 use Rattle.nest_solver.specs.Groups.{AreGrouped}
-use Rattle.nest_solver.specs.Nets.{AreUp, HasDepths, outer_of}
+use Rattle.nest_solver.specs.Nets.{AreUp, HasDepths, outer_of, up_step}
 use Rattle.nest_solver.specs.Shape.{IsUpTo}
-use Rattle.nest_solver.specs.Up.{AreRight, up_step}
+use Rattle.nest_solver.specs.Up.{AreRight}
 use Rattle.nest_solver.proofs.Deeps.{inst_at, no_inst}
 use Rattle.nest_solver.proofs.Puts.{Puts}
 

@@ -8,10 +8,7 @@ use Rattle.nest_solver.specs.Solved.{IsDual, base_shift, base_worth, lifted}
 use Rattle.nest_solver.proofs.Arcs.{back-of, closes-0, goes_on-in}
 use Rattle.nest_solver.proofs.Solving.{reach-closes, reach-goes}
 
--- The three kinds of worth of a base.
-base_zero : (p shift live dead : ℕ) (b : Bool) → p ≡ 0 → cond (p == 0) (shift + 1) (cond b live dead) ≡ shift + 1
-base_zero p shift live dead b e = grind (arith, nat_tests)
-
+-- The kinds of worth of a base.
 base_live : (p shift live dead best : ℕ) → 0 < p → 0 < best →
     cond (p == 0) shift (cond (nat_lt 0 best) live dead) ≡ live
 base_live p shift live dead best low some = grind (arith, nat_tests)

@@ -9,9 +9,9 @@ use Rattle.ipet_program.specs.declared.program.Program.{Program}
 use Rattle.nest_solver.specs.Shape.{Shape}
 use Rattle.nest_solver.specs.Solved.{IsDual}
 
--- (`leaf-greatest` of proofs/Answering.antt gives it from the tables of all levels, `counts-greatest` the counts.)
--- The leaf shows, with whole multipliers, a bound that some counts reach: the greatest value. Row 1 has the bound
--- for its multiplier.
+-- The leaf shows, with no cuts and whole multipliers (the denominator is 1), a bound that some counts reach: the
+-- greatest value. Row 1 has the bound for its multiplier. (`leaf-greatest` of proofs/Answering.antt gives it from the
+-- tables of all levels.)
 pub record ShowsGreatest (program : Program) (leaf : Leaf) : Type 0 where
   pub bound : ℕ
   pub valid : IsLeaf program [] bound leaf
@@ -24,7 +24,7 @@ pub record ShowsGreatest (program : Program) (leaf : Leaf) : Type 0 where
   pub reached : value_of program counts ≡ pos bound
 
 -- The listed counts have the greatest value. They name columns of the program, by rising number, and each count is
--- above 0.
+-- above 0. (`counts-greatest` of proofs/Answering.antt)
 pub record AreGreatest (program : Program) (counts : List Count) : Type 0 where
   pub named : NamesColumns program counts
   pub rising : AllPairs (λ count other. count.column < other.column) counts

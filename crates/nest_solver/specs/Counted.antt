@@ -36,7 +36,7 @@ abbrev pub IsCounted : Shape → (path : List ℕ) → (ways : ℕ → List ℕ)
 IsCounted s path ways counts =
     (i : ℕ) → IsUpTo s.arcs i → counts i ≡ times path i + added s (entered s counts) ways i
 
--- The way out: arc 1, and a longest way of depth 0 from where it goes to.
+-- The way out, of that weight: arc 1, and a way of depth 0 from where it goes to.
 pub record IsPath (s : Shape) (weight : ℕ → ℕ) (path : List ℕ) (total : ℕ) : Type 0 where
   pub more : List ℕ
   pub round : ℕ → ℕ

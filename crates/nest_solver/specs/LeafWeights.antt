@@ -1,16 +1,13 @@
 -- The multipliers of the rows of a net's program.
-use Rattle.std.specs.Prelude.{◌≡◌, ℕ, zero, suc, ◌+◌, ◌-◌, ◌*◌, ◌^◌, ◌≤◌, ◌==◌, nat_le, ℤ, pos, ◌-ℤ◌, List, [], ◌∷◌, ◌++◌, false, if◌then◌else◌}
+use Rattle.std.specs.Prelude.{◌≡◌, ℕ, zero, suc, ◌+◌, ◌*◌, ◌^◌, ◌≤◌, ℤ, pos, List, [], ◌∷◌, ◌++◌, false}
 use Rattle.ipet_program.specs.declared.leaf.Leaf.{Leaf}
 use Rattle.ipet_program.specs.declared.leaf.Weight.{Weight}
 use Rattle.nest_solver.specs.Shape.{Shape, IsUpTo}
+use Rattle.nest_solver.specs.Values.{times_of}
 
--- Row 1 has the multiplier `total`; the row of a place how much less it is worth than place 0; the row of
--- a loop its turn.
+-- The multipliers of the rows of plain tables.
 abbrev pub multiplier : Shape → (total : ℕ) → (worth turns : ℕ → ℕ) → ℕ → ℤ
-multiplier s total worth turns row =
-    if row == 1 then pos total
-    else (if nat_le row (s.places + 1) then pos (worth 0) -ℤ pos (worth (row - 1))
-    else pos (turns (row - (s.places + 1))))
+multiplier s total worth turns row = times_of s.places total worth turns row
 
 -- A multiplier of 0 isn't listed.
 abbrev pub weight_at : ℕ → ℤ → List Weight

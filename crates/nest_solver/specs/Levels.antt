@@ -7,10 +7,6 @@ use Rattle.nest_solver.specs.Shape.{Shape, IsUpTo, target, is_entering}
 use Rattle.nest_solver.specs.Solved.{AreSolved, weight_of}
 use Rattle.nest_solver.specs.Ways.{HasRoom, IsRound}
 
--- The turn of a loop of the depth, by the longest way from its header; another loop keeps its turn.
-abbrev pub turned : Shape → (depth : ℕ) → (best before : ℕ → ℕ) → ℕ → ℕ
-turned s depth best before l = if s.depth l == depth then best (s.header l) - 1 else before l
-
 -- What the turns of the loops of a depth add to the weight of an arc.
 abbrev pub extra : Shape → (depth : ℕ) → (turns : ℕ → ℕ) → ℕ → ℕ
 extra s depth turns i =

@@ -81,12 +81,15 @@ shape_of net depth headed =
       headed = headed;
     }
 
+-- The scope of a depth round another one, by the one round the next scope outward.
+abbrev pub up_step : (deep depth scope outward : ℕ) → ℕ
+up_step deep depth scope outward = if deep == depth then scope else (if nat_lt depth deep then outward else 0)
+
 -- Of each scope the one of this depth that is round it, itself or further outward; 0 where there is none.
 pub record AreUp (net : Net) (depths : ℕ → ℕ) (depth : ℕ) (up : ℕ → ℕ) : Type 0 where
   pub run : up 0 ≡ 0
   pub outward : (scope : ℕ) (inst : LoopInst) → item_at scope net.loops ≡ Some inst →
-      up scope ≡ (if depths scope == depth then scope
-      else (if nat_lt depth (depths scope) then up inst.outer else 0))
+      up scope ≡ up_step (depths scope) depth scope (up inst.outer)
 
 -- Of each place the loop of that depth that is round it. (`round-up` of proofs/NetShape.antt)
 abbrev pub round_by : Net → (up : ℕ → ℕ) → ℕ → ℕ

@@ -27,11 +27,14 @@ pub record IsSolved (s : Shape) (value turns : ℕ → ℕ) (depth : ℕ) : Type
 abbrev pub AreSolved : Shape → (value turns : ℕ → ℕ) → (depth : ℕ) → Type 0
 AreSolved s value turns depth = (deeper : ℕ) → depth ≤ deeper → IsSolved s value turns deeper
 
+-- The turn of a loop of the depth, by the longest way from its header; another loop keeps its turn.
+abbrev pub turned : Shape → (depth : ℕ) → (best before : ℕ → ℕ) → ℕ → ℕ
+turned s depth best before l = if s.depth l == depth then best (s.header l) - 1 else before l
+
 -- The turns of the loops of a depth put beside those that stood before.
 abbrev pub AreTurns : Shape → (depth : ℕ) → (best before after : ℕ → ℕ) → Type 0
 AreTurns s depth best before after =
-    (l : ℕ) → IsUpTo s.loops l →
-    after l ≡ (if s.depth l == depth then best (s.header l) - 1 else before l)
+    (l : ℕ) → IsUpTo s.loops l → after l ≡ turned s depth best before l
 
 -- Worths of places: along each arc the worth falls by at least the arc's weight. A back arc may use up
 -- its loop's turn; those of loops deeper than `depth` aren't asked. (`weak` of proofs/Weak.antt: worths that ask all

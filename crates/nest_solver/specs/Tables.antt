@@ -6,11 +6,11 @@ use Rattle.flow_net.specs.declared.net.Net.{Net}
 use Rattle.nest_solver.specs.Nets.{holds_of, source_of}
 use Rattle.nest_solver.specs.Shape.{IsUpTo}
 
--- The lists of the net are counted by 32 bits.
+-- The net has at most 2^28 arcs, places and loop instances.
 pub record IsFew (net : Net) : Type 0 where
-  pub arcs : length net.arcs ≤ 2 ^ 25
-  pub places : length net.places ≤ 2 ^ 25
-  pub loops : length net.loops ≤ 2 ^ 25
+  pub arcs : length net.arcs ≤ 2 ^ 28
+  pub places : length net.places ≤ 2 ^ 28
+  pub loops : length net.loops ≤ 2 ^ 28
 
 -- Whether an arc goes back to the header of a loop that holds its source: the test of back arcs of the net's
 -- plain tables.

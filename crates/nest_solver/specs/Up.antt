@@ -1,10 +1,10 @@
 -- The scopes of a net by their depths, and the loops of one depth round them as far as they are found.
-use Rattle.std.specs.Prelude.{◌≡◌, ◌⊎◌, ℕ, ◌+◌, ◌<◌, ◌≤◌, ◌==◌, nat_lt, length, Some, if◌then◌else◌}
+use Rattle.std.specs.Prelude.{◌≡◌, ◌⊎◌, ℕ, ◌+◌, ◌<◌, ◌≤◌, length, Some}
 use Rattle.flow_net.specs.Numbers.{item_at}
 use Rattle.flow_net.specs.declared.net.LoopInst.{LoopInst}
 use Rattle.flow_net.specs.declared.net.Net.{Net}
 use Rattle.nest_solver.specs.Groups.{AreGrouped}
-use Rattle.nest_solver.specs.Nets.{HasDepths, entry}
+use Rattle.nest_solver.specs.Nets.{HasDepths, entry, up_step}
 use Rattle.nest_solver.specs.declared.scopes.Scopes.{Scopes}
 
 -- The tables tell the depths of the net's scopes, and the chains of loop instances of one depth.
@@ -16,10 +16,6 @@ pub record AreScopes (net : Net) (scopes : Scopes) : Type 0 where
   pub next : length scopes.next.items ≡ length net.loops + 1
   pub chains : AreGrouped (entry scopes.depths.items) (length net.loops + 1) (entry scopes.heads.items)
       (entry scopes.next.items)
-
--- The scope of a depth round another one, by the one round the next scope outward.
-abbrev pub up_step : (deep depth scope outward : ℕ) → ℕ
-up_step deep depth scope outward = if deep == depth then scope else (if nat_lt depth deep then outward else 0)
 
 -- They are found for the loop instances that lie less deep than a level, and for those at the level with a
 -- number above `at`.

@@ -9,7 +9,8 @@ use Rattle.nest_solver.specs.Shape.{IsUpTo}
 pub record AreValues (program : Program) (values : ℕ → ℕ) : Type 0 where
   pub told : (i : ℕ) → IsUpTo (length program.value) i → values i ≡ unsigned_abs (value_at program i)
 
--- The multiplier of a row, by the number of places.
+-- The multiplier of a row, by the number of places: of row 1 the total, of the row of a place how much less it is worth
+-- than place 0, of the row of a loop its turn.
 abbrev pub times_of : (places total : ℕ) → (worth turns : ℕ → ℕ) → ℕ → ℤ
 times_of places total worth turns row =
     if row == 1 then pos total

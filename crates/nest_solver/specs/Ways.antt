@@ -27,10 +27,9 @@ abbrev pub reach : Shape → (depth : ℕ) → (round best : ℕ → ℕ) → �
 reach s depth round best i =
     if closes s depth i then 1 else (if goes_on s depth round i then best (s.to i) else 0)
 
--- Two sweeps of one depth with the same weights find the same (`swept-same` of proofs/Forward.antt), and from each
--- place with a known way such a way goes (`longest` there).
 -- Of each place 1 more than the weight of the longest way from there, 0 where there is none, and the
--- first arc of such a way.
+-- first arc of such a way. (Two sweeps of one depth with the same weights find the same: `swept-same` of
+-- proofs/Forward.antt. From each place with a known way such a way goes: `longest` there.)
 pub record IsSwept (s : Shape) (depth : ℕ) (round weight best choice : ℕ → ℕ) : Type 0 where
   pub closed : (i : ℕ) → IsUpTo s.arcs i → 0 < reach s depth round best i →
       weight i + reach s depth round best i ≤ best (s.from i)

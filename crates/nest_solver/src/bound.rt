@@ -1,6 +1,6 @@
 //! The greatest value of the program of a nested net.
 
-ghost use Rattle.std.specs.Prelude.{◌≡◌, ℕ, ◌+◌, ◌≤◌, IfOk, length};
+ghost use Rattle.std.specs.Prelude.{◌≡◌, ℕ, ◌+◌, ◌≤◌, ◌^◌, IfOk, length};
 ghost use Rattle.flow_net.specs.Nested.{IsNested};
 ghost use Rattle.nest_solver.specs.Answers.{ShowsGreatest};
 ghost use Rattle.nest_solver.specs.Bases.{AreRanks};
@@ -63,9 +63,10 @@ fn show(
 /// row 1 is the value.
 ///
 /// It takes a step for each arc and each depth of the loops.
+#[tactic(auto, using(crate::proofs::Few::few_of))]
 pub fn nest_bound(alloc: Global, program: &Program, net: &Net) -> Result<Leaf, AllocError>
     requires nested { IsNested net.now }
-    requires few { IsFew net.now }
+    requires few { length net.now.arcs ≤ 2 ^ 28 }
     requires program { IsProgramOfNet net.now program.now }
     ensures shows { IfOk result (λ leaf. ShowsGreatest program.now leaf) }
 {

@@ -21,7 +21,7 @@ use wcet_io::List;
 
 /// Lists the count of a column, unless it is 0.
 fn list(column: usize, number: u64, counts: &mut List<Count>) -> Result<(), AllocError>
-    requires column { column ≤ 2 ^ 25 }
+    requires column { column ≤ 2 ^ 28 }
     ensures listed { OnOk result (counts.new ≡ counts.old ++ count_at column number) }
 {
     if number == 0 {
@@ -37,7 +37,7 @@ fn list(column: usize, number: u64, counts: &mut List<Count>) -> Result<(), Allo
 /// The counts of all columns that aren't 0, by rising column.
 fn list_all(alloc: Global, counts: &[u64]) -> Result<List<Count>, AllocError>
     requires some { 0 < length counts.now }
-    requires few { length counts.now ≤ 2 ^ 25 + 1 }
+    requires few { length counts.now ≤ 2 ^ 28 + 1 }
     ensures listed { IfOk result (λ listed. listed ≡ counts_to (entry counts.now) (length counts.now - 1)) }
 {
     let mut listed = List::new(alloc);
@@ -127,9 +127,10 @@ fn count(
 /// Counts of the greatest value of the program of a nested net: those above 0, by rising column.
 ///
 /// It takes a step for each arc and each depth of the loops.
+#[tactic(auto, using(crate::proofs::Few::few_of))]
 pub fn nest_counts(alloc: Global, program: &Program, net: &Net) -> Result<List<Count>, AllocError>
     requires nested { IsNested net.now }
-    requires few { IsFew net.now }
+    requires few { length net.now.arcs ≤ 2 ^ 28 }
     requires program { IsProgramOfNet net.now program.now }
     ensures greatest { IfOk result (λ counts. AreGreatest program.now counts) }
 {

@@ -17,8 +17,8 @@ fn times(places: usize, total: u64, worths: &[u128], turns: &[u64], row: usize) 
     requires row { 1 ≤ row }
     requires within { row < places + 1 + length turns.now }
     requires worths { length worths.now ≡ places + 1 }
-    requires few { places ≤ 2 ^ 25 }
-    requires loops { length turns.now ≤ 2 ^ 25 + 1 }
+    requires few { places ≤ 2 ^ 28 }
+    requires loops { length turns.now ≤ 2 ^ 28 + 1 }
     requires small { (p : ℕ) → entry worths.now p ≤ 2 ^ 120 }
     ensures times { result ≡ times_of places total (entry worths.now) (entry turns.now) row }
     ensures fits { FitsSigned w128 result }
@@ -55,9 +55,9 @@ pub fn weights_of(
     turns: &[u64],
 ) -> Result<List<Weight>, AllocError>
     requires worths { length worths.now ≡ places + 1 }
-    requires few { places ≤ 2 ^ 25 }
+    requires few { places ≤ 2 ^ 28 }
     requires some { 0 < length turns.now }
-    requires loops { length turns.now ≤ 2 ^ 25 + 1 }
+    requires loops { length turns.now ≤ 2 ^ 28 + 1 }
     requires small { (p : ℕ) → entry worths.now p ≤ 2 ^ 120 }
     ensures weights { IfOk result (λ weights. weights ≡ weights_to (times_of places total (entry worths.now) (entry turns.now))
         (places + length turns.now)) }
@@ -78,9 +78,9 @@ pub fn leaf_of(
     turns: &[u64],
 ) -> Result<Leaf, AllocError>
     requires worths { length worths.now ≡ places + 1 }
-    requires few { places ≤ 2 ^ 25 }
+    requires few { places ≤ 2 ^ 28 }
     requires some { 0 < length turns.now }
-    requires loops { length turns.now ≤ 2 ^ 25 + 1 }
+    requires loops { length turns.now ≤ 2 ^ 28 + 1 }
     requires small { (p : ℕ) → entry worths.now p ≤ 2 ^ 120 }
     ensures denom { IfOk result (λ leaf. leaf.denom ≡ pos 1) }
     ensures shows { IfOk result (λ leaf. leaf.empty ≡ false) }

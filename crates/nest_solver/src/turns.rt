@@ -3,11 +3,11 @@
 ghost use Rattle.std.specs.Prelude.{◌≡◌, ℕ, ◌+◌, ◌<◌, ◌≤◌, length};
 ghost use Rattle.flow_net.specs.Nested.{IsNested};
 ghost use Rattle.ipet_program.specs.Programs.{crude_limit};
-ghost use Rattle.nest_solver.specs.Levels.{extra, turned};
+ghost use Rattle.nest_solver.specs.Levels.{extra};
 ghost use Rattle.nest_solver.specs.Nets.{entry};
 ghost use Rattle.nest_solver.specs.Plain.{AreTables, plain};
 ghost use Rattle.nest_solver.specs.Shape.{IsUpTo};
-ghost use Rattle.nest_solver.specs.Solved.{AreTurns};
+ghost use Rattle.nest_solver.specs.Solved.{AreTurns, turned};
 ghost use Rattle.nest_solver.specs.Tables.{IsFew};
 
 use crate::reads::{bound, header, target};

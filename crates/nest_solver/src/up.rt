@@ -3,9 +3,9 @@
 ghost use Rattle.std.specs.Prelude.{◌≡◌, ℕ, ◌+◌, ◌<◌, ◌≤◌, length};
 ghost use Rattle.flow_net.specs.Nested.{IsNested};
 ghost use Rattle.flow_net.specs.Numbers.{item_at};
-ghost use Rattle.nest_solver.specs.Nets.{AreUp, entry, outer_of};
+ghost use Rattle.nest_solver.specs.Nets.{AreUp, entry, outer_of, up_step};
 ghost use Rattle.nest_solver.specs.Shape.{IsUpTo};
-ghost use Rattle.nest_solver.specs.Up.{AreRight, AreScopes, up_step};
+ghost use Rattle.nest_solver.specs.Up.{AreRight, AreScopes};
 
 use crate::reads::outer;
 use crate::scopes::Scopes;

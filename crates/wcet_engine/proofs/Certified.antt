@@ -52,4 +52,4 @@ pub few-of : (image : Image) (entry : ℕ) (net : Net) → IsNet image entry net
     IsFew net
 few-of image entry net is arcs places =
     let loops = loops-few image entry net is in
-    record { arcs = arcs; places = omega (arith, places); loops = omega (arith, places, loops) }
+    record { arcs = omega (arith, arcs); places = omega (arith, places); loops = omega (arith, places, loops) }

@@ -1,5 +1,5 @@
 use Rattle.std.proofs.Common.{ℕ, ◌-◌, ◌==◌, ◌<◌, cond, length, ap, arith, ◌∙◌}
-use Rattle.nest_solver.specs.Levels.{turned}
+use Rattle.nest_solver.specs.Solved.{turned}
 use Rattle.nest_solver.specs.Nets.{entry}
 use Rattle.nest_solver.specs.Plain.{plain}
 use Rattle.nest_solver.proofs.Puts.{done-more, later-more}
