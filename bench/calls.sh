@@ -73,6 +73,19 @@ def nests(functions, turns):
     return words + RETURN, records, bound
 
 
+def loops(functions, turns, records):
+    """One function calls each of the others, a loop of one unit each, and each loop has so many records."""
+    first = START + 8 * functions + 8
+    words = [word for number in range(functions) for word in call(first + 16 * number)]
+    words += RETURN + ([0x1480FFFF, 0] + RETURN) * functions
+    marks = [
+        (1, first + 16 * number + 4 * (turn % 2), turns + turn, 0)
+        for turn in range(records)
+        for number in range(functions)
+    ]
+    return words, marks, (functions * (4 + 2 * turns) + 2) * WORD
+
+
 def unreached(words):
     """A function of one unit before words that nothing reaches."""
     return RETURN + [0] * (words - 2), [], 2 * WORD
@@ -84,6 +97,7 @@ CASES += [(table, count) for count in (1000, 8000, 60000)]
 CASES += [(pointers, count) for count in (1000, 4000, 16000)]
 CASES += [(blocks, 1000, calls) for calls in (8, 32, 64)]
 CASES += [(nests, count, 2) for count in (6, 9, 12, 14)]
+CASES += [(loops, count, 9, 60000 // count) for count in (1000, 4000, 16000)]
 CASES += [(unreached, (1 << 22) - 32)]
 
 for make, *sizes in CASES:

@@ -11,7 +11,8 @@ use Rattle.step_table.specs.Numbers.{number_of}
 use Rattle.step_table.specs.Table.{IsMet, IsReverse, IsStep, IsWithin}
 use Rattle.step_table.proofs.Meeting.{a_step, step_among}
 use Rattle.step_table.proofs.Reversing.{from_within, step_within, within_by}
-use Rattle.step_table.proofs.Ringing.{IsTurned, met_wider, turned}
+use Rattle.step_table.proofs.Meeting.{met_wider}
+use Rattle.step_table.proofs.Ringing.{IsTurned, turned}
 use Rattle.step_table.proofs.Seen.{alone}
 use Rattle.loop_nest.proofs.Choosing.{AreChosen, step_cases, step_new, step_old}
 use Rattle.loop_nest.proofs.Removing.{falling_met}

@@ -3,7 +3,7 @@ use Rattle.std.proofs.Common.{◌≡◌, ℕ, ◌<◌, Bool, true, false, List, 
 use Rattle.std.specs.Prelude.{Contains, slice_get}
 use Rattle.std.proofs.Math.ListN.{length-replicate}
 use Rattle.std.proofs.lemmas.Option.{same_Some, slice_get_within}
-use Rattle.std.proofs.lemmas.List.Elements.{Contains-append_left, Contains-push, Contains-push_cases}
+use Rattle.std.proofs.lemmas.List.Elements.{Contains-append_cases, Contains-append_left, Contains-append_right, Contains-push, Contains-push_cases}
 use Rattle.step_table.specs.Search.{IsPassed, IsSearch, IsSeen, Sees, SeesMet}
 use Rattle.step_table.specs.Table.{IsMet, IsStep}
 use Rattle.step_table.proofs.Seen.{in_none, slice_get-replicate}
@@ -30,25 +30,53 @@ unseen_by seen n x e h =
 pub nothing : (none : List ℕ) (x : ℕ) → none ≡ [] → Contains none x → ⊥
 nothing none x e h = in_none x (subst (λ (xs : List ℕ). Contains xs x) e h)
 
--- At the start the starts wait.
-pub IsSearch-start : (table : List (List ℕ)) (starts : List ℕ) (barred : ℕ) (none : List Bool)
-    (nobody : List ℕ) (n : ℕ) (seen : List Bool) (waiting : List ℕ) →
-    none ≡ replicate n false → nobody ≡ [] → Sees starts barred none nobody seen waiting →
-    n ≡ length table → IsSearch table starts barred seen waiting
-IsSearch-start table starts barred none nobody n seen waiting none_is nobody_is sees same = record {
-  count = sees.count ∙ ap length none_is ∙ length-replicate n false ∙ same;
-  begun = sees.there;
-  sound = λ x h. elim (sees.only x h) [
-    | inl p ↦ absurd (unseen_by none n x none_is p)
-    | inr q ↦ IsMet.begins x q.0 q.1
+-- What is met from some positions is met from others from which these are met.
+pub met_through : (table : List (List ℕ)) (starts others : List ℕ) (barred x : ℕ) →
+    ((s : ℕ) → Contains starts s → (s ≡ barred → ⊥) → IsMet table others barred s) → IsMet table starts barred x →
+    IsMet table others barred x
+met_through table starts others barred _ each (IsMet.begins start among free) = each start among free
+met_through table starts others barred _ each (IsMet.goes from to met step free) =
+    IsMet.goes from to (met_through table starts others barred from each met) step free
+
+pub met_wider : (table : List (List ℕ)) (starts others : List ℕ) (barred x : ℕ) →
+    ((s : ℕ) → Contains starts s → Contains others s) → IsMet table starts barred x → IsMet table others barred x
+met_wider table starts others barred x each met =
+    met_through table starts others barred x (λ s c free. IsMet.begins s (each s c) free) met
+
+-- Nothing is met from nothing.
+pub SeesMet-nothing : (table : List (List ℕ)) (barred n : ℕ) (seen : List Bool) → seen ≡ replicate n false →
+    n ≡ length table → SeesMet table [] barred seen
+SeesMet-nothing table barred n seen fresh same = record {
+  count = ap length fresh ∙ length-replicate n false ∙ same;
+  sound = λ x h. absurd (unseen_by seen n x fresh h);
+  whole = λ x met. absurd (nowhere x met);
+}
+  where
+    nowhere : (x : ℕ) → IsMet table [] barred x → ⊥
+    nowhere _ (IsMet.begins start among free) = in_none start among
+    nowhere _ (IsMet.goes from to met step free) = nowhere from met
+
+-- Some more starts are seen, and wait.
+pub search_more : (table : List (List ℕ)) (others starts : List ℕ) (barred : ℕ) (seen later : List Bool) (none waiting : List ℕ) →
+    none ≡ [] → SeesMet table others barred seen → Sees starts barred seen none later waiting →
+    IsSearch table (others ++ starts) barred later waiting
+search_more table others starts barred seen later none waiting empty met sees = record {
+  count = sees.count ∙ met.count;
+  begun = λ x c free. elim (Contains-append_cases others starts x c) as (λ _. IsSeen later x) [
+    | inl old ↦ sees.kept x (met.whole x (IsMet.begins x old free))
+    | inr new ↦ sees.there x new free
   ];
-  known = λ x h. elim (sees.known x h) [
-    | inl p ↦ absurd (nothing nobody x nobody_is p)
-    | inr q ↦ q
+  sound = λ x h. elim (sees.only x h) as (λ _. IsMet table (others ++ starts) barred x) [
+    | inl old ↦ met_wider table others (others ++ starts) barred x (λ s c. Contains-append_left others starts s c) (met.sound x old)
+    | inr new ↦ IsMet.begins x (Contains-append_right others starts x new.0) new.1
+  ];
+  known = λ x c. elim (sees.known x c) as (λ _. IsSeen later x) [
+    | inl old ↦ absurd (nothing none x empty old)
+    | inr new ↦ new
   ];
   done = λ x h. elim (sees.new x h) [
-    | inl p ↦ absurd (unseen_by none n x none_is p)
-    | inr q ↦ inl q
+    | inl old ↦ inr (λ to step free. sees.kept to (met.whole to (IsMet.goes x to (met.sound x old) step free)))
+    | inr new ↦ inl new
   ];
 }
 
@@ -98,17 +126,15 @@ IsSearch-turn table starts barred next steps seen waiting rest later_seen later_
     turn table starts barred next steps seen rest later_seen later_waiting there
     (subst (IsSearch table starts barred seen) e ahead) sees
 
--- A waiting position is one of the table.
-pub waiting_within : (table : List (List ℕ)) (starts : List ℕ) (barred next : ℕ) (seen : List Bool)
-    (waiting rest : List ℕ) → IsSearch table starts barred seen waiting → waiting ≡ rest ++ next ∷ [] →
-    next < length table
-waiting_within table starts barred next seen waiting rest ahead e =
-    omega (
-      arith,
-      ahead.count,
-      slice_get_within seen next true (ahead.known next
-          (subst (λ (xs : List ℕ). Contains xs next) (sym e) (Contains-push rest next))),
-    )
+-- Waiting positions stay positions of the table.
+pub waiting_inside : (positions : List ℕ) (barred : ℕ) (seen later : List Bool) (waiting more : List ℕ) →
+    Sees positions barred seen waiting later more → ((x : ℕ) → Contains waiting x → x < length seen) →
+    (x : ℕ) → Contains more x → x < length later
+waiting_inside positions barred seen later waiting more sees inside x c =
+    elim (sees.known x c) as (λ _. x < length later) [
+      | inl old ↦ omega (arith, inside x old, sees.count)
+      | inr new ↦ slice_get_within later x true new
+    ]
 
 -- Nothing waits, so that each position to which steps lead is seen.
 pub IsSearch-end : (table : List (List ℕ)) (starts : List ℕ) (barred : ℕ) (seen : List Bool)

@@ -2,30 +2,17 @@
 use Rattle.std.proofs.Common.{◌≡◌, ℕ, ◌<◌, ◌↔◌, Bool, true, false, List, [], ◌∷◌, ◌++◌, length, set, replicate, Some, refl, sym, subst, ap, ◌∙◌, arith, inl, inr, ◌⊎◌}
 use Rattle.std.specs.Prelude.{Contains, slice_get}
 use Rattle.std.specs.Bool.{OnFalse, OnTrue}
-use Rattle.std.proofs.Math.ListN.{length-set, length-replicate}
+use Rattle.std.proofs.Math.ListN.{length-set}
 use Rattle.std.proofs.lemmas.Bool.{cases_eq}
 use Rattle.std.proofs.lemmas.Option.{same_Some, slice_get_within}
 use Rattle.std.proofs.lemmas.List.Elements.{Contains-append_left, Contains-append_right, Contains-push, Contains-push_cases}
 use Rattle.step_table.specs.Cycles.{IsCyclic}
 use Rattle.step_table.specs.Rings.{AreLeft, AreMarks, HasSeen, IsLeft, IsMarkedRight, IsOrder}
-use Rattle.step_table.specs.Search.{IsSearch, IsSeen, Sees, SeesMet}
+use Rattle.step_table.specs.Search.{IsSeen, SeesMet}
 use Rattle.step_table.specs.Table.{IsMet, IsReverse, IsStep}
-use Rattle.step_table.proofs.Meeting.{a_step, unseen_by}
+use Rattle.step_table.proofs.Meeting.{a_step, met_through, met_wider, SeesMet-nothing}
 use Rattle.step_table.proofs.Leaving.{order_last}
 use Rattle.step_table.proofs.Seen.{alone, in_none, itself, slice_get-set_other, slice_get-set_same}
-
--- What is met from some positions is met from others from which these are met.
-pub met_through : (table : List (List ℕ)) (starts others : List ℕ) (barred x : ℕ) →
-    ((s : ℕ) → Contains starts s → (s ≡ barred → ⊥) → IsMet table others barred s) → IsMet table starts barred x →
-    IsMet table others barred x
-met_through table starts others barred _ each (IsMet.begins start among free) = each start among free
-met_through table starts others barred _ each (IsMet.goes from to met step free) =
-    IsMet.goes from to (met_through table starts others barred from each met) step free
-
-pub met_wider : (table : List (List ℕ)) (starts others : List ℕ) (barred x : ℕ) →
-    ((s : ℕ) → Contains starts s → Contains others s) → IsMet table starts barred x → IsMet table others barred x
-met_wider table starts others barred x each met =
-    met_through table starts others barred x (λ s c free. IsMet.begins s (each s c) free) met
 
 -- What is met from one of the starts is met from them.
 pub met_one : (table : List (List ℕ)) (starts : List ℕ) (barred one x : ℕ) → IsMet table starts barred one →
@@ -84,41 +71,6 @@ before_or_cyclic table before last steps x left there met = by_met x met
       | inl c ↦ close to (IsMet.goes from to met step free)
           (left.goes from to (Contains-append_left before (last ∷ []) from c) step)
       | inr around ↦ inr around
-    ]
-
--- One more start is seen.
-pub search_more : (table : List (List ℕ)) (starts : List ℕ) (start barred : ℕ) (seen later : List Bool) (none waiting : List ℕ) →
-    none ≡ [] → SeesMet table starts barred seen → Sees (start ∷ []) barred seen none later waiting →
-    IsSearch table (starts ++ start ∷ []) barred later waiting
-search_more table starts start barred seen later none waiting empty met sees = record {
-  count = sees.count ∙ met.count;
-  begun = λ x c free. elim (Contains-push_cases starts start x c) as (λ _. IsSeen later x) [
-    | inl old ↦ sees.kept x (met.whole x (IsMet.begins x old free))
-    | inr e ↦ sees.there x (subst (Contains (start ∷ [])) e (itself start)) free
-  ];
-  sound = λ x h. elim (sees.only x h) as (λ _. IsMet table (starts ++ start ∷ []) barred x) [
-    | inl old ↦ met_wider table starts (starts ++ start ∷ []) barred x
-        (λ s c. Contains-append_left starts (start ∷ []) s c) (met.sound x old)
-    | inr new ↦ IsMet.begins x (Contains-append_right starts (start ∷ []) x new.0) new.1
-  ];
-  known = λ x c. elim (sees.known x c) as (λ _. IsSeen later x) [
-    | inl old ↦ absurd (in_none x (subst (λ (xs : List ℕ). Contains xs x) empty old))
-    | inr new ↦ new
-  ];
-  done = λ x h. elim (sees.new x h) [
-    | inl old ↦ inr (λ to step free. sees.kept to (met.whole to (IsMet.goes x to (met.sound x old) step free)))
-    | inr new ↦ inl new
-  ];
-}
-
--- Waiting positions stay positions of the table.
-pub waiting_inside : (positions : List ℕ) (barred : ℕ) (seen later : List Bool) (waiting more : List ℕ) →
-    Sees positions barred seen waiting later more → ((x : ℕ) → Contains waiting x → x < length seen) →
-    (x : ℕ) → Contains more x → x < length later
-waiting_inside positions barred seen later waiting more sees inside x c =
-    elim (sees.known x c) as (λ _. x < length later) [
-      | inl old ↦ omega (arith, inside x old, sees.count)
-      | inr new ↦ slice_get_within later x true new
     ]
 
 -- How the marking stands: what is still to come, and the positions that have their marks.
@@ -263,20 +215,12 @@ pub marking_start : (table reverse : List (List ℕ)) (order : List ℕ) (seen m
 marking_start table reverse order seen marks is all fresh count = record {
   starts = [];
   left = all.left;
-  sees = record {
-    count = ap length fresh ∙ length-replicate (length table) false ∙ sym is.count;
-    sound = λ x h. absurd (unseen_by seen (length table) x fresh h);
-    whole = λ x met. absurd (nowhere x met);
-  };
+  sees = SeesMet-nothing reverse (length reverse) (length table) seen fresh (sym is.count);
   whole = λ x inside. inl (all.whole x inside);
   apart = λ x c d. in_none x d;
   count = count;
   marked = λ x c. absurd (in_none x c);
 }
-  where
-    nowhere : (x : ℕ) → IsMet reverse [] (length reverse) x → ⊥
-    nowhere _ (IsMet.begins start among free) = in_none start among
-    nowhere _ (IsMet.goes from to met step free) = nowhere from met
 
 pub marking_end : (table reverse : List (List ℕ)) (order : List ℕ) (seen marks : List Bool) →
     IsMarking table reverse order seen marks → order ≡ [] → AreMarks table marks

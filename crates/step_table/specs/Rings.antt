@@ -1,25 +1,27 @@
--- The order in which a search in depth leaves the positions, and the marks of those that lie on a cycle.
+-- Orders of positions in which steps go back, and the marks of the positions that lie on a cycle.
 use Rattle.std.specs.Prelude.{◌≡◌, ℕ, ◌+◌, ◌*◌, ◌<◌, ◌≤◌, ◌⊎◌, ◌↔◌, List, [], ◌∷◌, ◌++◌, length, Contains, Some, slice_get, Bool, true, set, sum_by}
 use Rattle.step_table.specs.Cycles.{IsCyclic}
 use Rattle.step_table.specs.Numbers.{number_of}
 use Rattle.step_table.specs.Search.{IsSeen, unseen}
 use Rattle.step_table.specs.Table.{IsMet, IsStep}
 
--- A position is left after some others: each step from one of these or from itself goes to one of them, or
--- to a position from which steps lead to the one that is left.
+-- A position may be left after some others: each step from one of these or from itself goes to one of these,
+-- to itself, or to a position from which steps lead to it.
 pub record IsLeft (table : List (List ℕ)) (before : List ℕ) (last : ℕ) : Type 0 where
   pub there : last < length table
   pub new : Contains before last → ⊥
   pub goes : (from to : ℕ) → Contains (before ++ last ∷ []) from → IsStep table from to →
       Contains (before ++ last ∷ []) to ⊎ IsMet table (to ∷ []) (length table) last
 
--- Positions in the order in which a search in depth leaves them.
+-- Positions each of which may be left after those before it. A search in depth leaves them in such an order,
+-- but not each such order is that of a search in depth.
 pub data AreLeft (table : List (List ℕ)) : List ℕ → Type 0 where
   begins : AreLeft table []
   more : (before : List ℕ) (last : ℕ) → AreLeft table before → IsLeft table before last →
       AreLeft table (before ++ last ∷ [])
 
--- All positions of a table, in such an order.
+-- All positions of a table, each once, in such an order. Where none lies on a cycle, each step goes to a
+-- position that stands earlier.
 pub record IsOrder (table : List (List ℕ)) (order : List ℕ) : Type 0 where
   pub left : AreLeft table order
   pub whole : (x : ℕ) → x < length table → Contains order x

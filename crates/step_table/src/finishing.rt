@@ -1,4 +1,4 @@
-//! The order in which a search in depth leaves the positions of a table.
+//! An order of the positions of a table in which steps go back, by a search in depth.
 
 ghost use Rattle.std.specs.Prelude.{◌≡◌, ℕ, ◌+◌, ◌<◌, ◌≤◌, ◌∷◌, ◌++◌, [], All, List, length, map, slice_get, Some, IfOk, OnOk};
 ghost use Rattle.step_table.specs.Numbers.{number_of};
@@ -97,9 +97,10 @@ fn leave_from(
     Ok(())
 }
 
-/// The positions of a table in the order in which a search in depth leaves them.
+/// All positions of a table in an order in which steps go back: up to each position, a step goes to one that
+/// stands no later, or to one from which steps lead to it.
 ///
-/// Each position comes to the trail once, and each step is looked at once.
+/// It takes a search in depth: each position comes to the trail once, and each step is looked at once.
 pub fn order_of(alloc: Global, table: &[List<usize>]) -> Result<Vec<usize>, AllocError>
     requires { IsWithin table.now }
     ensures { IfOk result (λ order. IsOrder table.now order.items) }

@@ -14,5 +14,5 @@ pub use cycles::first_cyclic;
 pub use finishing::order_of;
 pub use listing::list_met;
 pub use rings::cyclic_positions;
-pub use search::{met_from, see_all, steps_at};
+pub use search::{met_from, steps_at};
 pub use table::{position_of, reverse_of, steps_to};

@@ -1,13 +1,13 @@
 //! Which positions of a table lie on a cycle of its steps.
 
-ghost use Rattle.std.specs.Prelude.{◌≡◌, ℕ, ◌<◌, ◌∷◌, ◌++◌, [], All, Contains, List, length, replicate, false, IfOk, OnOk};
+ghost use Rattle.std.specs.Prelude.{◌≡◌, ℕ, ◌<◌, All, Contains, length, replicate, false, IfOk, OnOk};
 ghost use Rattle.std.specs.Bool.{OnFalse, OnTrue};
 ghost use Rattle.step_table.specs.Rings.{AreMarks, HasSeen, IsMarkedRight, IsOrder};
-ghost use Rattle.step_table.specs.Search.{IsSearch, IsSeen, SeesMet};
+ghost use Rattle.step_table.specs.Search.{IsSeen};
 ghost use Rattle.step_table.specs.Table.{IsReverse, IsWithin};
 
 use crate::finishing::order_of;
-use crate::search::{see_all, steps_at};
+use crate::search::{see_more, steps_at};
 use crate::table::reverse_of;
 use std::alloc::{AllocError, Global};
 use wcet_io::List;
@@ -26,47 +26,10 @@ fn has_seen(seen: &[bool], positions: &[usize]) -> bool
     false
 }
 
-/// Goes on with a search until no position waits.
-fn see_waiting(
-    table: &[List<usize>],
-    mut waiting: Vec<usize>,
-    seen: &mut [bool],
-) -> Result<(), AllocError>
-    requires within { IsWithin table.now }
-    requires sized { length seen.old ≡ length table.now }
-    requires inside { (x : ℕ) → Contains waiting.items x → x < length seen.old }
-    ensures { OnOk result ((starts : List ℕ) → IsSearch table.now starts (length table.now) seen.old waiting.items
-        → SeesMet table.now starts (length table.now) seen.new) }
-{
-    while let Some(next) = waiting.pop() {
-        see_all(steps_at(table, next), table.len(), seen, &mut waiting)?;
-    }
-    Ok(())
-}
-
-/// Sees the positions to which steps lead from one more, where those from some others are seen.
-fn see_more(
-    alloc: Global,
-    table: &[List<usize>],
-    start: usize,
-    seen: &mut [bool],
-) -> Result<(), AllocError>
-    requires within { IsWithin table.now }
-    requires there { start < length table.now }
-    requires sized { length seen.old ≡ length table.now }
-    ensures { OnOk result ((starts : List ℕ) → SeesMet table.now starts (length table.now) seen.old
-        → SeesMet table.now (starts ++ start ∷ []) (length table.now) seen.new) }
-{
-    let mut waiting = Vec::new(alloc);
-    see_all(&[start], table.len(), seen, &mut waiting)?;
-    see_waiting(table, waiting, seen)?;
-    Ok(())
-}
-
 /// Marks the positions that lie on a cycle; nothing is seen yet.
 ///
-/// A position lies on a cycle where one of its steps goes to a position from which steps lead to it, or to
-/// one that was left after it.
+/// The positions are taken from the last one of the order on. A position lies on a cycle where one of its
+/// steps goes to a position from which steps lead to it or to one that was taken before it.
 fn mark_all(
     alloc: Global,
     table: &[List<usize>],
@@ -84,7 +47,7 @@ fn mark_all(
     ensures { OnOk result (AreMarks table.now marks.new) }
 {
     while let Some(position) = order.pop() {
-        see_more(alloc, reverse, position, seen)?;
+        see_more(alloc, reverse, &[position], reverse.len(), seen)?;
         marks[position] = has_seen(seen, steps_at(table, position));
     }
     Ok(())

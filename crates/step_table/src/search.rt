@@ -1,7 +1,7 @@
 //! Searching a table of steps: to which positions steps lead.
 
-ghost use Rattle.std.specs.Prelude.{◌≡◌, ◌<◌, ◌∷◌, [], All, length, replicate, slice_get, Some, IfOk, OnOk, false};
-ghost use Rattle.step_table.specs.Search.{Sees, SeesMet};
+ghost use Rattle.std.specs.Prelude.{◌≡◌, ℕ, ◌<◌, ◌∷◌, ◌++◌, [], All, Contains, List, length, slice_get, Some, IfOk, OnOk};
+ghost use Rattle.step_table.specs.Search.{IsSearch, Sees, SeesMet};
 ghost use Rattle.step_table.specs.Table.{IsWithin};
 
 use std::alloc::{AllocError, Global};
@@ -55,10 +55,30 @@ pub fn see_all(
     Ok(())
 }
 
-/// Sees the positions to which steps lead; nothing is seen yet.
+/// Goes on with a search until no position waits.
+fn see_waiting(
+    table: &[List<usize>],
+    mut waiting: Vec<usize>,
+    barred: usize,
+    seen: &mut [bool],
+) -> Result<(), AllocError>
+    requires within { IsWithin table.now }
+    requires sized { length seen.old ≡ length table.now }
+    requires inside { (x : ℕ) → Contains waiting.items x → x < length seen.old }
+    ensures { OnOk result ((starts : List ℕ) → IsSearch table.now starts barred seen.old waiting.items →
+        SeesMet table.now starts barred seen.new) }
+{
+    while let Some(next) = waiting.pop() {
+        see_all(steps_at(table, next), barred, seen, &mut waiting)?;
+    }
+    Ok(())
+}
+
+/// Sees the positions to which steps lead from some more, where those from others are seen.
 ///
-/// Each position waits once, so that the time is in proportion to the table.
-fn see_met(
+/// Each position waits once, so that all these searches with one list of what is seen take time in proportion
+/// to the table.
+pub fn see_more(
     alloc: Global,
     table: &[List<usize>],
     starts: &[usize],
@@ -67,14 +87,13 @@ fn see_met(
 ) -> Result<(), AllocError>
     requires within { IsWithin table.now }
     requires starts { All (λ start. start < length table.now) starts.now }
-    requires unseen { seen.old ≡ replicate (length table.now) false }
-    ensures { OnOk result (SeesMet table.now starts.now barred seen.new) }
+    requires sized { length seen.old ≡ length table.now }
+    ensures { OnOk result ((others : List ℕ) → SeesMet table.now others barred seen.old →
+        SeesMet table.now (others ++ starts.now) barred seen.new) }
 {
     let mut waiting = Vec::new(alloc);
     see_all(starts, barred, seen, &mut waiting)?;
-    while let Some(next) = waiting.pop() {
-        see_all(steps_at(table, next), barred, seen, &mut waiting)?;
-    }
+    see_waiting(table, waiting, barred, seen)?;
     Ok(())
 }
 
@@ -91,6 +110,6 @@ pub fn met_from(
     ensures { IfOk result (λ seen. SeesMet table.now starts.now barred seen.items) }
 {
     let mut seen = vec![in alloc; false; table.len()]?;
-    see_met(alloc, table, starts, barred, &mut seen)?;
+    see_more(alloc, table, starts, barred, &mut seen)?;
     Ok(seen)
 }

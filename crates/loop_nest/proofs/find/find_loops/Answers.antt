@@ -1,8 +1,7 @@
-use Rattle.std.proofs.Common.{List, Option, None, subst, sym, ◌∙◌}
+use Rattle.std.proofs.Common.{List, subst}
 use Rattle.std.specs.BTreeMap.{get}
 use Rattle.std.specs.Ordering.{nat_cmp}
 use Rattle.elf_mips.specs.declared.mark.Mark.{Mark}
-use Rattle.unit_graph.specs.declared.first.Offence.{Offence}
 use Rattle.unit_graph.specs.declared.graph.Graph.{Graph}
 use Rattle.loop_nest.specs.Bounds.{AreRecorded}
 use Rattle.loop_nest.specs.Programs.{IsFoundIn}

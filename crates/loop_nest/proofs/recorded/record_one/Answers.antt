@@ -1,4 +1,4 @@
-use Rattle.std.proofs.Common.{arith, sym, ◌∙◌, subst, ap, ℕ, ◌≡◌, Option, Some}
+use Rattle.std.proofs.Common.{subst, ℕ, ◌≡◌, Option, Some}
 use Rattle.std.specs.BTreeMap.{get}
 use Rattle.std.specs.Ordering.{nat_cmp}
 use Rattle.loop_nest.specs.Bounds.{lesser_of}

@@ -1,9 +1,8 @@
-use Rattle.std.proofs.Common.{ℕ, List, ◌∷◌, ◌∙◌, [], length, subst, sym, arith}
+use Rattle.std.proofs.Common.{ℕ, List, ◌∷◌, ◌∙◌, [], subst, sym, arith}
 use Rattle.std.specs.Prelude.{Contains}
 use Rattle.std.proofs.lemmas.List.Elements.{Contains-append_left, Contains-push}
-use Rattle.step_table.proofs.Meeting.{IsSearch-end, IsSearch-turn}
-use Rattle.step_table.proofs.Ringing.{waiting_inside}
-use Rattle.step_table.proofs.rings.see_waiting.Goals as goal
+use Rattle.step_table.proofs.Meeting.{IsSearch-end, IsSearch-turn, waiting_inside}
+use Rattle.step_table.proofs.search.see_waiting.Goals as goal
 
 pub loop-next-init : goal.loop-next-init
 loop-next-init c = record {
@@ -24,12 +23,12 @@ steps_at-requires-clause-there c =
 pub loop-next-preserved : goal.loop-next-preserved
 loop-next-preserved c = record {
   search = λ starts h.
-      IsSearch-turn c.args.table.now starts (length c.args.table.now) c.in-Some.next c.steps_at.result.now
+      IsSearch-turn c.args.table.now starts c.args.barred c.in-Some.next c.steps_at.result.now
       c.loop-next.seen c.loop-next.waiting.items c.pop.new.self.items c.see_all.new.seen
       c.see_all.new.waiting.items c.steps_at.ensures.there (c.loop-next.invariant.search starts h)
       c.in-Some.ensures.items c.in_ok-see_all.ensures;
   sized = c.in_ok-see_all.ensures.count ∙ c.loop-next.invariant.sized;
-  inside = waiting_inside c.steps_at.result.now (length c.args.table.now) c.loop-next.seen c.see_all.new.seen c.pop.new.self.items
+  inside = waiting_inside c.steps_at.result.now c.args.barred c.loop-next.seen c.see_all.new.seen c.pop.new.self.items
       c.see_all.new.waiting.items c.in_ok-see_all.ensures
       (λ x h. c.loop-next.invariant.inside x
       (subst (λ (xs : List ℕ). Contains xs x) (sym c.in-Some.ensures.items) (Contains-append_left c.pop.new.self.items (c.in-Some.next ∷ []) x h)));
@@ -37,6 +36,6 @@ loop-next-preserved c = record {
 
 pub returns : goal.returns
 returns c starts h =
-    IsSearch-end c.args.table.now starts (length c.args.table.now) c.loop-next.seen c.loop-next.waiting.items
+    IsSearch-end c.args.table.now starts c.args.barred c.loop-next.seen c.loop-next.waiting.items
     (c.loop-next.invariant.search starts h)
     (λ h. omega (arith, c.in_default.ensures.cases, c.loop-next.waiting.ok))
