@@ -5,10 +5,13 @@ ghost use Rattle.std.specs.Prelude.{◌≡◌};
 /// A record. Kind 1 bounds a loop, kind 2 names a target, kind 3 a range of addresses.
 #[derive(Clone, Copy, Debug)]
 pub struct Mark {
+    /// 1, 2 or 3 in an image.
     pub kind: u32,
     /// The address of what the record speaks of.
     pub address: u32,
+    /// The bound, the target, or the first address of the range.
     pub x: u32,
+    /// The address behind the range; 0 in the other kinds.
     pub y: u32,
 }
 

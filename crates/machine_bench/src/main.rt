@@ -95,7 +95,9 @@ fn file_bytes(alloc: Global) -> Result<Vec<u8>, AllocError>
 }
 
 /// Does so many units, or fewer where the loop ends; how many were done.
-fn run(machine: &mut Machine, units: u64) -> u64 {
+fn run(machine: &mut Machine, units: u64) -> u64
+    ensures { result ≤ units }
+{
     let mut done = 0;
     for unit in 0..units {
         if machine.cycles() >= 1 << 61 {
