@@ -1,5 +1,5 @@
 -- The set of two numbers.
-use Rattle.std.proofs.Common.{◌≡◌, ℕ, ◌<◌, List, [], ◌∷◌, All, refl, arith}
+use Rattle.std.proofs.Common.{ℕ, ◌<◌, [], ◌∷◌, All, refl, arith}
 use Rattle.std.specs.Prelude.{AllPairs, Contains}
 use Rattle.std.proofs.lemmas.List.Elements.{All-cons, All-nil}
 use Rattle.std.proofs.lemmas.List.Kept.{AllPairs-cons}

@@ -13,7 +13,7 @@ use mips_decode::Instr;
 use net_model::{CodeKind, CodeUnit, Content};
 
 /// Whether an instruction goes to recorded targets: JALR, and JR of another register than 31.
-pub fn needs_target(instr: &Instr) -> bool
+fn needs_target(instr: &Instr) -> bool
     ensures { result ≡ needs_target instr.now }
 {
     match *instr {
