@@ -45,6 +45,7 @@ pub record AreRetreatsTo (reverse : List (List ℕ)) (ranks : List ℕ) (done : 
   pub whole : (from header : ℕ) → header < done → IsStep reverse header from →
       number_of ranks from ≤ number_of ranks header → IsStep sources header from
 
+-- For each position the steps to it from positions with no greater ranks.
 abbrev pub AreRetreats : (reverse : List (List ℕ)) → (ranks : List ℕ) → (sources : List (List ℕ)) → Type 0
 AreRetreats reverse ranks sources = AreRetreatsTo reverse ranks (length reverse) sources
 

@@ -48,6 +48,7 @@ IsNoted body ranks header position before found =
     (Contains body position × IsLesser ranks header before found)
     ⊎ ((Contains body position → ⊥) × (before ≡ found))
 
+-- One more header has noted itself at the positions of its body, and nowhere else.
 pub record AreNoted (body : List ℕ) (ranks : List ℕ) (header : ℕ) (before later : List (Option ℕ)) : Type 0 where
   pub count : length later ≡ length before
   pub each : (position : ℕ) (found : Option ℕ) → slice_get later position ≡ Some found →

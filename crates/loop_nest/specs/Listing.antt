@@ -43,6 +43,7 @@ pub record IsUnboundedAt (sources : List (List ℕ)) (bounds : List (Option ℕ)
   pub none : slice_get bounds header ≡ Some None
   pub first : (earlier : ℕ) → earlier < header → IsHead sources earlier → (bound : ℕ) × (slice_get bounds earlier ≡ Some (Some bound))
 
+-- The loops of all headers, or the first header without a bound.
 abbrev pub IsListed : (addresses : List ℕ) → (reverse sources : List (List ℕ)) → (bounds : List (Option ℕ)) → Listed → Type 0
 IsListed addresses reverse sources bounds (Loops loops) = AreLoopsAt addresses reverse sources bounds (length sources) loops
 IsListed addresses reverse sources bounds (Unbounded header) = IsUnboundedAt sources bounds header

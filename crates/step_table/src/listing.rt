@@ -45,7 +45,7 @@ fn unmark(marks: &mut [bool], positions: &[usize])
 }
 
 /// The positions to which steps lead from some positions, themselves among them, without coming to the
-/// barred one: each once, in the order in which the search comes to them.
+/// barred one, each once.
 ///
 /// No mark is set before, and none afterwards, so that the time is in proportion to these positions and
 /// their steps, whatever the length of the table.
