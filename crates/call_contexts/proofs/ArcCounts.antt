@@ -22,7 +22,8 @@ use Rattle.call_contexts.proofs.ContextOrder.{context-lower, made-rises}
 use Rattle.call_contexts.proofs.SpotNumbers.{IsLower, graph-once, one-at, spot-before}
 use Rattle.call_contexts.proofs.LaidProgram.{calls-there, graph-is, node-is}
 use Rattle.call_contexts.proofs.WayCounts.{weight, weights-few}
-use Rattle.call_contexts.proofs.Zips.{pairs-append, pairs-nil, zip-length, zip-pairs, zip-sound}
+use Rattle.std.proofs.lemmas.Slice.Zip.{AllZip-long}
+use Rattle.call_contexts.proofs.Zips.{pairs-append, pairs-nil, zip-pairs, zip-sound}
 
 -- A further context is made by a call at a place below a number.
 pub record IsMadeBelow (graphs : List Graph) (layout : Layout) (limit made : ℕ) : Type 0 where
@@ -149,7 +150,7 @@ counted-more image entry graphs layout context position node number room targets
         are.few,
         counted.few,
         length-append counted.made news,
-        zip-length (IsMadeFor layout context node.address) node.calls news zip,
+        AllZip-long (IsMadeFor layout context node.address) node.calls news zip,
       );
     }
 

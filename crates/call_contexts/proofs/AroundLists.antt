@@ -11,7 +11,7 @@ use Rattle.loop_nest.proofs.Dominance.{body-reached, header-reached}
 use Rattle.loop_nest.proofs.NestLaws.{among}
 use Rattle.step_table.proofs.Seen.{slice_get-set_other, slice_get-set_same, slice_get-replicate}
 use Rattle.unit_graph.specs.declared.node.Unit.{Unit as Node}
-use Rattle.call_contexts.specs.Around.{AreNearest, AreNearing, AreUnitsOf, IsInner, IsNearestBy, addresses_of}
+use Rattle.call_contexts.specs.Around.{AreNearest, AreUnitsOf, IsInner, IsNearestBy, addresses_of}
 use Rattle.call_contexts.specs.Layout.{HasNode}
 use Rattle.call_contexts.proofs.AroundLaws.{body-of, loop-at, nearest-more, nearest-same, same-loop}
 use Rattle.call_contexts.proofs.Nodes.{same_node}
@@ -44,6 +44,15 @@ more-before body k d x inside there =
 more-last : (body : List ℕ) (k d : ℕ) → k < length body → Contains (take (k + 1) body) (get_or body k d)
 more-last body k d inside =
     subst (λ (xs : List ℕ). Contains xs (get_or body k d)) (sym (take_more body k d inside)) (Contains-push (take k body) (get_or body k d))
+
+-- The innermost of the first loops for each unit, while the next one is looked at: it counts for the first units of
+-- its body and not yet for the others.
+pub record AreNearing (units : List Node) (loops : List Loop) (done : ℕ) (body : List ℕ) (around : List (Option ℕ)) : Type 0 where
+  pub count : length around ≡ length units
+  pub seen : (position : ℕ) (found : Option ℕ) (one : Node) → slice_get units position ≡ Some one →
+      slice_get around position ≡ Some found → Contains body one.address → IsNearestBy loops (done + 1) one.address found
+  pub left : (position : ℕ) (found : Option ℕ) (one : Node) → slice_get units position ≡ Some one →
+      slice_get around position ≡ Some found → (Contains body one.address → ⊥) → IsNearestBy loops done one.address found
 
 -- Before the units of a body.
 pub nearing-none : (units : List Node) (loops : List Loop) (done : ℕ) (body : List ℕ) (around : List (Option ℕ)) → AreNearest units loops done around →

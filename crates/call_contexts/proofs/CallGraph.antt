@@ -22,10 +22,11 @@ use Rattle.call_contexts.specs.Expansion.{RiseCalls}
 use Rattle.call_contexts.specs.Layout.{HasGraphs}
 use Rattle.call_contexts.specs.Sizes.{AreCallsOf, IsCallAfter, IsCallOf}
 use Rattle.call_contexts.specs.declared.calls.Called.{Called}
-use Rattle.call_contexts.proofs.GraphCalls.{from-map, graph_calls-are}
+use Rattle.call_contexts.proofs.GraphCalls.{graph_calls-are}
 use Rattle.call_contexts.proofs.GraphFunctions.{first_graph, graph_in}
 use Rattle.call_contexts.proofs.GraphPlaces.{entry_of}
-use Rattle.call_contexts.proofs.Places.{map_at, mapped_at, pair_at, pairs_by, zip_left, zip_right}
+use Rattle.call_contexts.proofs.Places.{from-map, map_at, mapped_at, pair_at, pairs_by}
+use Rattle.call_contexts.proofs.Zips.{zip_left, zip_right}
 
 -- The functions that units of a program's graphs call have graphs.
 pub calls_known : (image : Image) (entry : ℕ) (graphs : Graphs) → AreGraphs image entry graphs →

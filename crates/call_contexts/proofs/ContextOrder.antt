@@ -1,11 +1,12 @@
 -- Contexts stand in the order of the calls that make them.
 use Rattle.std.proofs.Common.{◌≡◌, ℕ, zero, suc, ◌<◌, ◌≤◌, ◌⊎◌, inl, inr, List, [], ◌∷◌, length, get_or, slice_get, drop, AllPairs, Some, None, refl, sym, ap, subst, ◌∙◌, arith}
 use Rattle.std.proofs.lemmas.Bool.{cases_lt}
-use Rattle.std.proofs.lemmas.Option.{get_or_from_slice_get, none-some, slice_get_within}
+use Rattle.std.proofs.lemmas.Option.{none-some}
 use Rattle.elf_mips.specs.declared.image.Image.{Image}
 use Rattle.flow_net.specs.declared.net.Context.{Context}
 use Rattle.net_model.specs.Contexts.{AreContexts, IsCallBefore, IsContextBefore, made_by}
 use Rattle.call_contexts.specs.Layout.{IsMadeAs}
+use Rattle.call_contexts.proofs.Places.{pair_at}
 use Rattle.call_contexts.proofs.SpotNumbers.{one-at}
 
 call-strict : (a b : Context) → IsCallBefore a b → IsCallBefore b a → ⊥
@@ -14,24 +15,21 @@ call-strict a b (inl less) (inr more) = omega (arith, less, more.0)
 call-strict a b (inr less) (inl more) = omega (arith, less.0, more)
 call-strict a b (inr less) (inr more) = omega (arith, less.1, more.1)
 
-context-strict : (a b : Context) → IsContextBefore a b → IsContextBefore b a → ⊥
+-- The order of contexts is strict.
+pub context-strict : (a b : Context) → IsContextBefore a b → IsContextBefore b a → ⊥
 context-strict a b (inl less) (inl more) = omega (arith, less, more)
 context-strict a b (inl less) (inr more) = omega (arith, less, more.0)
 context-strict a b (inr less) (inl more) = omega (arith, less.0, more)
 context-strict a b (inr less) (inr more) = call-strict a b less.1 more.1
 
 -- Of two further contexts the one of the lesser number comes first.
-numbers-ordered : (contexts : List Context) → AllPairs IsContextBefore (drop 1 contexts) → (n m : ℕ) (a b : Context) →
+pub numbers-ordered : (contexts : List Context) → AllPairs IsContextBefore (drop 1 contexts) → (n m : ℕ) (a b : Context) →
     0 < n → n < m → slice_get contexts n ≡ Some a → slice_get contexts m ≡ Some b → IsContextBefore a b
 numbers-ordered [] order n m a b some less one other = absurd (none-some a one)
 numbers-ordered (c ∷ cs) order zero m a b some less one other = absurd (omega (arith, some))
 numbers-ordered (c ∷ cs) order (suc i) zero a b some less one other = absurd (omega (arith, less))
 numbers-ordered (c ∷ cs) order (suc i) (suc j) a b some less one other =
-    let pair : IsContextBefore (get_or cs i a) (get_or cs j a) =
-    order i j a (omega (arith, less)) (slice_get_within cs j b other) in
-    let first : get_or cs i a ≡ a = get_or_from_slice_get cs i a a one in
-    let second : get_or cs j a ≡ b = get_or_from_slice_get cs j b a other in
-    subst (λ (x : Context). IsContextBefore a x) second (subst (λ (x : Context). IsContextBefore x (get_or cs j a)) first pair)
+    pair_at IsContextBefore cs order i j a b (omega (arith, less)) one other
 
 -- So the one that comes first has the lesser number, and a call makes one context.
 pub context-lower : (image : Image) (entry : ℕ) (contexts : List Context) → AreContexts image entry contexts → (n m : ℕ) (a b : Context) →

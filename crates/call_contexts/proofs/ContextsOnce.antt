@@ -5,27 +5,9 @@ use Rattle.std.proofs.lemmas.Option.{none-some, same_Some, slice_get-get_or, sli
 use Rattle.elf_mips.specs.declared.image.Image.{Image}
 use Rattle.flow_net.specs.declared.net.Context.{Context}
 use Rattle.net_model.specs.Contexts.{AreContexts, IsContextBefore, IsMade, Reaches}
+use Rattle.call_contexts.proofs.ContextOrder.{context-strict, numbers-ordered}
 use Rattle.call_contexts.proofs.Keyed.{same-option, same-positions}
-use Rattle.call_contexts.proofs.NetItems.{context-once, in-order}
-
--- The order of contexts is strict.
-context-strict : (c d : Context) → IsContextBefore c d → IsContextBefore d c → ⊥
-context-strict c d (inl less) (inl more) = omega (arith, less, more)
-context-strict c d (inl less) (inr (same, after)) = omega (arith, less, same)
-context-strict c d (inr (same, before)) (inl less) = omega (arith, less, same)
-context-strict c d (inr (same, inl less)) (inr (also, inl more)) = omega (arith, less, more)
-context-strict c d (inr (same, inl less)) (inr (also, inr (site, more))) = omega (arith, less, site)
-context-strict c d (inr (same, inr (site, less))) (inr (also, inl more)) = omega (arith, site, more)
-context-strict c d (inr (same, inr (site, less))) (inr (also, inr (other, more))) = omega (arith, less, more)
-
--- Of two contexts behind the first the one of the lesser number comes before the other.
-contexts-order : (contexts : List Context) → AllPairs IsContextBefore (drop 1 contexts) → (i j : ℕ) (c d : Context) → 0 < i → i < j →
-    slice_get contexts i ≡ Some c → slice_get contexts j ≡ Some d → IsContextBefore c d
-contexts-order [] order i j c d positive less one other = absurd (none-some c one)
-contexts-order (first ∷ more) order zero j c d positive less one other = absurd (omega (arith, positive))
-contexts-order (first ∷ more) order (suc i) zero c d positive less one other = absurd (omega (arith, less))
-contexts-order (first ∷ more) order (suc i) (suc j) c d positive less one other =
-    in-order IsContextBefore more order i j c d one other (omega (arith, less))
+use Rattle.call_contexts.proofs.NetItems.{context-once}
 
 -- Two lists have the same contexts below a number.
 abbrev AgreeBelow : (contexts others : List Context) → ℕ → Type 0
@@ -86,7 +68,7 @@ context-next image entry contexts others are also n agree c positive there = by_
   d_there less = slice_get-get_or others n c (let inside = slice_get_within others m c ahead.2 in omega (arith, less, inside))
 
   d_before : n < m → IsContextBefore d c
-  d_before less = contexts-order others also.order n m d c positive less (d_there less) ahead.2
+  d_before less = numbers-ordered others also.order n m d c positive less (d_there less) ahead.2
 
   apart : n < m → ⊥
   apart less = by_other (cases_lt n back.0) where
@@ -95,7 +77,7 @@ context-next image entry contexts others are also n agree c positive there = by_
 
     by_other : ((n < back.0) ⊎ (back.0 ≤ n)) → ⊥
     by_other (inl further) =
-        context-strict c d (contexts-order contexts are.order n back.0 c d positive further there back.2) (d_before less)
+        context-strict c d (numbers-ordered contexts are.order n back.0 c d positive further there back.2) (d_before less)
     by_other (inr most) =
         let same : back.0 ≡ n = let least = back.1 in omega (arith, most, least) in
         let equal : Some c ≡ Some d = sym there ∙ ap (slice_get contexts) (sym same) ∙ back.2 in

@@ -19,7 +19,7 @@ use Rattle.net_model.specs.Places.{IsPlaceOf}
 use Rattle.net_model.specs.Targets.{unit_at}
 use Rattle.net_model.specs.declared.unit.CodeUnit.{CodeUnit}
 use Rattle.net_model.specs.declared.unit.Content.TheVariants.{Unit as Stands}
-use Rattle.call_contexts.proofs.Items.{item-one}
+use Rattle.flow_net.proofs.Numbers.{item_at-same}
 use Rattle.call_contexts.proofs.NetItems.{context-at, own-place, place-once, place-reached}
 use Rattle.call_contexts.proofs.NetPaths.{Enters, IsArcOf, Leads}
 use Rattle.call_contexts.proofs.NetRanks.{AreRanked}
@@ -121,7 +121,7 @@ module _ (image : Image) (entry : ℕ) (net : Net) (is : IsNet image entry net) 
       IsLoopAt net scope context address → to ≡ inst.header
   header-place scope to context address inst there at loop =
       place-once image entry net is to loop.inst.header context address at loop.at
-      ∙ ap (λ (l : LoopInst). l.header) (item-one net.loops scope loop.inst inst loop.there there)
+      ∙ ap (λ (l : LoopInst). l.header) (item_at-same net.loops scope loop.inst inst loop.there there)
 
   pub entering-arc : (number scope : ℕ) (arc : NetArc) (inst : LoopInst) → item_at scope net.loops ≡ Some inst → Holds net scope arc.to →
       (Holds net scope arc.from → ⊥) → IsArcOf image entry net number arc → arc.to ≡ inst.header

@@ -2,7 +2,6 @@
 use Rattle.std.proofs.Common.{◌≡◌, ℕ, ◌<◌, inl, inr, List, [], ◌∷◌, ◌++◌, map, All, AllPairs, Contains, refl, sym, subst, arith}
 use Rattle.std.specs.Prelude.{flat_map}
 use Rattle.std.proofs.lemmas.List.Elements.{All-append, All-contains, All-head, All-map, All-nil, All-tail, All-weaker, All-contains_itself, Contains-append_left, Contains-append_right}
-use Rattle.std.proofs.lemmas.List.Kept.{AllPairs-cons}
 use Rattle.elf_mips.specs.declared.image.Image.{Image}
 use Rattle.mips_decode.specs.Transfer.{Call}
 use Rattle.net_model.specs.Functions.{CallsAt, IsFunction, IsReached}
@@ -10,57 +9,33 @@ use Rattle.unit_graph.specs.Graphs.{AreGraphs, AreJust, IsGraph, IsGraphIn, IsNo
 use Rattle.unit_graph.specs.declared.graph.Graph.{Graph}
 use Rattle.unit_graph.specs.declared.graph.Graphs.{Graphs}
 use Rattle.unit_graph.specs.declared.node.Unit.{Unit as Node}
-use Rattle.loop_nest.proofs.Ordered.{cases-in, first-in, later-in, nothing-in, pairs-head, pairs-tail}
+use Rattle.loop_nest.proofs.Ordered.{cases-in, nothing-in, pairs-head, pairs-tail}
+use Rattle.call_contexts.proofs.Calling.{call_to}
 use Rattle.call_contexts.proofs.Keyed.{keys-ordered}
+use Rattle.call_contexts.proofs.Places.{from-map, in-map}
+use Rattle.call_contexts.proofs.Zips.{pairs-append}
+use Rattle.call_contexts.specs.Around.{Rise}
+use Rattle.call_contexts.specs.Counting.{calls_at}
 use Rattle.call_contexts.specs.Sizes.{AreCallsOf, IsCallAfter, IsCallOf}
 
--- Lists in two parts, and mapped lists.
-pub pairs-append : {T : Type 0} (R : T → T → Type 0) (xs ys : List T) → AllPairs R xs → AllPairs R ys →
-    All (λ x. All (R x) ys) xs → AllPairs R (xs ++ ys)
-pairs-append R [] ys front back cross = back
-pairs-append R (x ∷ xs) ys front back cross =
-    AllPairs-cons R x (xs ++ ys)
-    (All-append (R x) xs ys (pairs-head R x xs front) (All-head (λ z. All (R z) ys) x xs cross))
-    (pairs-append R xs ys (pairs-tail R x xs front) back (All-tail (λ z. All (R z) ys) x xs cross))
-
-pub in-map : {S T : Type 0} (f : S → T) (xs : List S) (x : S) → Contains xs x → Contains (map f xs) (f x)
-in-map f [] x there = absurd (nothing-in x there)
-in-map {S} {T} f (one ∷ more) x there = elim (cases-in one more x there) [
-  | inl here ↦ subst (λ (y : S). Contains (map f (one ∷ more)) (f y)) here (first-in (f one) (map f more))
-  | inr behind ↦ later-in (f one) (map f more) (f x) (in-map f more x behind)
-]
-
-pub from-map : {S T : Type 0} (f : S → T) (xs : List S) (y : T) → Contains (map f xs) y → (x : S) × Contains xs x × (f x ≡ y)
-from-map f [] y there = absurd (nothing-in y there)
-from-map f (one ∷ more) y there = elim (cases-in (f one) (map f more) y there) [
-  | inl here ↦ (one, first-in one more, here)
-  | inr behind ↦ let rest = from-map f more y behind in (rest.0, later-in one more rest.0 rest.1, rest.2)
-]
-
--- The calls of a unit, by rising functions, and those of a function's units.
-abbrev pub call_at : (site target : ℕ) → Call
-call_at site target = record { site = site; target = target }
-
-abbrev pub unit_calls : Node → List Call
-unit_calls node = map (call_at node.address) node.calls
-
+-- The calls of units, by rising sites and, for each site, by rising functions.
 abbrev pub graph_calls : List Node → List Call
-graph_calls units = flat_map unit_calls units
+graph_calls units = flat_map calls_at units
 
 -- Each call of a unit has its site there.
-unit_calls-site : (node : Node) → All (λ (call : Call). call.site ≡ node.address) (unit_calls node)
-unit_calls-site node =
-    All-map (λ (call : Call). call.site ≡ node.address) (call_at node.address) node.calls (λ k d inside. refl)
+calls_at-site : (node : Node) → All (λ (call : Call). call.site ≡ node.address) (calls_at node)
+calls_at-site node =
+    All-map (λ (call : Call). call.site ≡ node.address) (call_to node.address) node.calls (λ k d inside. refl)
 
-unit_calls-rising : (image : Image) (function : ℕ) (node : Node) → IsNode image function node → AllPairs IsCallAfter (unit_calls node)
-unit_calls-rising image function node is =
-    keys-ordered IsCallAfter (call_at node.address) node.calls
+calls_at-rising : (image : Image) (function : ℕ) (node : Node) → IsNode image function node → AllPairs IsCallAfter (calls_at node)
+calls_at-rising image function node is =
+    keys-ordered IsCallAfter (call_to node.address) node.calls
     (λ i j d less inside. inr (refl, is.described.calls.rising i j d less inside))
 
-unit_calls-sound : (image : Image) (function : ℕ) (node : Node) → IsNode image function node → All (IsCallOf image function) (unit_calls node)
-unit_calls-sound image function node is =
-    All-map (IsCallOf image function) (call_at node.address) node.calls
-    (All-weaker (Contains node.calls) (λ (callee : ℕ). IsCallOf image function (call_at node.address callee))
+calls_at-sound : (image : Image) (function : ℕ) (node : Node) → IsNode image function node → All (IsCallOf image function) (calls_at node)
+calls_at-sound image function node is =
+    All-map (IsCallOf image function) (call_to node.address) node.calls
+    (All-weaker (Contains node.calls) (λ (callee : ℕ). IsCallOf image function (call_to node.address callee))
     (λ callee there. record { reached = is.reached; calls = is.described.calls.sound callee there })
     node.calls (All-contains_itself node.calls))
 
@@ -69,44 +44,41 @@ graph_calls-later : (floor : ℕ) (units : List Node) → All (λ (node : Node).
     All (λ (call : Call). floor < call.site) (graph_calls units)
 graph_calls-later floor [] later = All-nil (λ (call : Call). floor < call.site)
 graph_calls-later floor (node ∷ more) later =
-    All-append (λ (call : Call). floor < call.site) (unit_calls node) (graph_calls more)
+    All-append (λ (call : Call). floor < call.site) (calls_at node) (graph_calls more)
     (All-weaker (λ (call : Call). call.site ≡ node.address) (λ (call : Call). floor < call.site)
     (λ call same. let less = All-head (λ (n : Node). floor < n.address) node more later in omega (arith, same, less))
-    (unit_calls node) (unit_calls-site node))
+    (calls_at node) (calls_at-site node))
     (graph_calls-later floor more (All-tail (λ (n : Node). floor < n.address) node more later))
 
-abbrev Rises : List Node → Type 0
-Rises units = AllPairs (λ (a b : Node). a.address < b.address) units
-
-graph_calls-rising : (image : Image) (function : ℕ) (units : List Node) → Rises units → All (IsNode image function) units →
+graph_calls-rising : (image : Image) (function : ℕ) (units : List Node) → Rise units → All (IsNode image function) units →
     AllPairs IsCallAfter (graph_calls units)
 graph_calls-rising image function [] rising nodes = λ i j d less inside. absurd (omega (arith, inside))
 graph_calls-rising image function (node ∷ more) rising nodes =
-    pairs-append IsCallAfter (unit_calls node) (graph_calls more)
-    (unit_calls-rising image function node (All-head (IsNode image function) node more nodes))
+    pairs-append IsCallAfter (calls_at node) (graph_calls more)
+    (calls_at-rising image function node (All-head (IsNode image function) node more nodes))
     (graph_calls-rising image function more (pairs-tail (λ (a b : Node). a.address < b.address) node more rising)
     (All-tail (IsNode image function) node more nodes))
     (All-weaker (λ (call : Call). call.site ≡ node.address) (λ (call : Call). All (IsCallAfter call) (graph_calls more))
     (λ call same. All-weaker (λ (other : Call). node.address < other.site) (IsCallAfter call)
     (λ other less. inl (omega (arith, same, less))) (graph_calls more)
     (graph_calls-later node.address more (pairs-head (λ (a b : Node). a.address < b.address) node more rising)))
-    (unit_calls node) (unit_calls-site node))
+    (calls_at node) (calls_at-site node))
 
 graph_calls-sound : (image : Image) (function : ℕ) (units : List Node) → All (IsNode image function) units →
     All (IsCallOf image function) (graph_calls units)
 graph_calls-sound image function [] nodes = All-nil (IsCallOf image function)
 graph_calls-sound image function (node ∷ more) nodes =
-    All-append (IsCallOf image function) (unit_calls node) (graph_calls more)
-    (unit_calls-sound image function node (All-head (IsNode image function) node more nodes))
+    All-append (IsCallOf image function) (calls_at node) (graph_calls more)
+    (calls_at-sound image function node (All-head (IsNode image function) node more nodes))
     (graph_calls-sound image function more (All-tail (IsNode image function) node more nodes))
 
-graph_calls-there : (units : List Node) (node : Node) (call : Call) → Contains units node → Contains (unit_calls node) call →
+graph_calls-there : (units : List Node) (node : Node) (call : Call) → Contains units node → Contains (calls_at node) call →
     Contains (graph_calls units) call
 graph_calls-there [] node call there at = absurd (nothing-in node there)
 graph_calls-there (one ∷ more) node call there at = elim (cases-in one more node there) [
-  | inl here ↦ Contains-append_left (unit_calls one) (graph_calls more) call
-      (subst (λ (n : Node). Contains (unit_calls n) call) (sym here) at)
-  | inr behind ↦ Contains-append_right (unit_calls one) (graph_calls more) call (graph_calls-there more node call behind at)
+  | inl here ↦ Contains-append_left (calls_at one) (graph_calls more) call
+      (subst (λ (n : Node). Contains (calls_at n) call) (sym here) at)
+  | inr behind ↦ Contains-append_right (calls_at one) (graph_calls more) call (graph_calls-there more node call behind at)
 ]
 
 graph_calls-whole : (image : Image) (function : ℕ) (graph : Graph) → IsGraph image function graph → (call : Call) →
@@ -117,8 +89,8 @@ graph_calls-whole image function graph is call calls =
     let listed : Contains node.calls call.target =
     stands.described.calls.whole call.target (subst (λ (a : ℕ). CallsAt image a call.target) (sym at) calls.calls) in
     graph_calls-there graph.units node call there
-    (subst (λ (site : ℕ). Contains (unit_calls node) (call_at site call.target)) at
-    (in-map (call_at node.address) node.calls call.target listed))
+    (subst (λ (site : ℕ). Contains (calls_at node) (call_to site call.target)) at
+    (in-map (call_to node.address) node.calls call.target listed))
 
 -- The calls of a function are those of its graph's units.
 pub graph_calls-are : (image : Image) (function : ℕ) (graph : Graph) → IsGraph image function graph →

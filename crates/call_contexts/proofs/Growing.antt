@@ -1,8 +1,7 @@
--- Numbers that grow along a list, and lists one behind the other.
-use Rattle.std.proofs.Common.{◌≡◌, ℕ, zero, suc, ◌+◌, ◌<◌, ◌≤◌, ◌⊎◌, inl, inr, List, [], ◌∷◌, ◌++◌, length, get_or, slice_get, Some, refl, sym, ap, subst, ◌∙◌, arith}
-use Rattle.std.specs.List.{AllZip}
+-- Numbers that grow along a list.
+use Rattle.std.proofs.Common.{◌≡◌, ℕ, zero, suc, ◌<◌, ◌≤◌, ◌⊎◌, inl, inr, List, length, get_or, slice_get, Some, sym, ap, ◌∙◌, arith}
 use Rattle.std.proofs.lemmas.Bool.{cases_lt}
-use Rattle.std.proofs.lemmas.Option.{none-some, same_Some, slice_get-get_or, slice_get_within}
+use Rattle.std.proofs.lemmas.Option.{same_Some, slice_get-get_or, slice_get_within}
 
 -- Each number is at most the next one.
 abbrev pub Grow : List ℕ → Type 0
@@ -67,35 +66,3 @@ lies xs first (suc done) top k there less =
         below = less;
       }
     ]
-
--- What stands in the second of two lists, and in the first.
-pub behind-at : {X : Type 0} (xs ys : List X) (k : ℕ) → slice_get (xs ++ ys) (length xs + k) ≡ slice_get ys k
-behind-at [] ys k = ap (λ (n : ℕ). slice_get ys n) (omega arith)
-behind-at {X} (x ∷ xs) ys k =
-    let e : length (x ∷ xs) + k ≡ suc (length xs + k) = omega arith in
-    ap (λ (n : ℕ). slice_get (x ∷ (xs ++ ys)) n) e ∙ behind-at xs ys k
-
-pub front-at : {X : Type 0} (xs ys : List X) (k : ℕ) → k < length xs → slice_get (xs ++ ys) k ≡ slice_get xs k
-front-at [] ys k less = absurd (omega (arith, less))
-front-at (x ∷ xs) ys zero less = refl
-front-at (x ∷ xs) ys (suc k) less = front-at xs ys k (omega (arith, less))
-
--- The partner of an item in a second list.
-pub record Partner {A B : Type 0} (R : A → B → Type 0) (ys : List B) (k : ℕ) (x : A) : Type 0 where
-  pub partner : B
-  pub there : slice_get ys k ≡ Some partner
-  pub related : R x partner
-
-pub zip-at : {A B : Type 0} (R : A → B → Type 0) (xs : List A) (ys : List B) → AllZip R xs ys → (k : ℕ) (x : A) →
-    slice_get xs k ≡ Some x → Partner R ys k x
-zip-at R [] [] all k x there = absurd (none-some x there)
-zip-at R [] (y ∷ ys) all k x there = absurd all
-zip-at R (a ∷ xs) [] all k x there = absurd all
-zip-at {A} {B} R (a ∷ xs) (y ∷ ys) all zero x there = record {
-  partner = y;
-  there = refl;
-  related = subst (λ (one : A). R one y) (same_Some a x there) all.0;
-}
-zip-at R (a ∷ xs) (y ∷ ys) all (suc k) x there =
-    let found = zip-at R xs ys all.1 k x there in
-    record { partner = found.partner; there = found.there; related = found.related }

@@ -18,7 +18,8 @@ use Rattle.call_contexts.specs.Instances.{AddsInstances, AreFirsts, AreInstances
 use Rattle.call_contexts.specs.Sizes.{most_places}
 use Rattle.call_contexts.specs.declared.around.Rounds.{Rounds}
 use Rattle.call_contexts.specs.declared.layout.Layout.{Layout}
-use Rattle.call_contexts.proofs.Growing.{Grow, behind-at, front-at, grows}
+use Rattle.call_contexts.proofs.Growing.{Grow, grows}
+use Rattle.call_contexts.proofs.Places.{behind-at, front-at}
 use Rattle.call_contexts.proofs.Parts.{PartsOf, bases-grow, firsts-grow, loops-few, parts-one}
 
 -- Before the first context.

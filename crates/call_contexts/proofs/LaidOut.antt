@@ -23,7 +23,8 @@ use Rattle.call_contexts.specs.declared.sizes.Counted.{Counted}
 use Rattle.call_contexts.proofs.CallGraph.{entry_apart, lists_rise, lists_within}
 use Rattle.call_contexts.proofs.GraphFunctions.{first_read}
 use Rattle.call_contexts.proofs.LayingOut.{AreMadeAll, contexts_are, context_at, position_is}
-use Rattle.call_contexts.proofs.Places.{map_at, zip_length}
+use Rattle.std.proofs.lemmas.Slice.Zip.{AllZip-long}
+use Rattle.call_contexts.proofs.Places.{map_at}
 use Rattle.call_contexts.proofs.ProgramSizes.{sizes_are}
 use Rattle.call_contexts.proofs.Summing.{sums_all}
 
@@ -32,7 +33,7 @@ total_told : (table : List (List ℕ)) (own : List ℕ) (number limit : ℕ) →
 total_told table own number limit told within small = record { total = told.total; adds = told.adds; same = omega (arith, told.same, within, small) }
 
 lists_length : (graphs : List Graph) (counted : Counted) → IsCounted graphs counted → length counted.lists.items ≡ length graphs
-lists_length graphs counted is = zip_length (λ (graph : Graph). AreCalled graphs (calls_in graph)) graphs counted.lists.items is.lists
+lists_length graphs counted is = AllZip-long (λ (graph : Graph). AreCalled graphs (calls_in graph)) graphs counted.lists.items is.lists
 
 units_length : (graphs : List Graph) (counted : Counted) → IsCounted graphs counted → length counted.units.items ≡ length counted.lists.items
 units_length graphs counted is =

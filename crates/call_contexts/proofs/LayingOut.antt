@@ -21,9 +21,8 @@ use Rattle.call_contexts.specs.Sizes.{IsCallOf, most_contexts, most_places}
 use Rattle.call_contexts.specs.declared.calls.Called.{Called}
 use Rattle.call_contexts.specs.declared.layout.Layout.{Layout}
 use Rattle.call_contexts.proofs.CallGraph.{HasList, called_are, called_by, graph_of, list_of, placed_by}
-use Rattle.call_contexts.proofs.GraphCalls.{from-map}
 use Rattle.call_contexts.proofs.GraphFunctions.{first_graph}
-use Rattle.call_contexts.proofs.Places.{map_at}
+use Rattle.call_contexts.proofs.Places.{from-map, map_at}
 
 -- The contexts that a program's lists of calls make, all of which have made theirs.
 pub record AreMadeAll (image : Image) (entry : ℕ) (graphs : Graphs) (lists : List (List Called)) (contexts : List Context) (functions : List ℕ) (count : ℕ) : Type 0 where

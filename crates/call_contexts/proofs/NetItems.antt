@@ -12,31 +12,25 @@ use Rattle.net_model.specs.Contexts.{AreContexts, IsContextBefore, Reaches}
 use Rattle.net_model.specs.Instances.{IsLoopAt, IsScopeOf}
 use Rattle.net_model.specs.Net.{IsNet}
 use Rattle.net_model.specs.Places.{IsPlaceBefore, IsPlaceOf}
-use Rattle.call_contexts.proofs.Items.{item-one, item-positive, item-within, rising-once}
+use Rattle.flow_net.proofs.Numbers.{item_at-same}
+use Rattle.call_contexts.proofs.Items.{item-positive, item-within, rising-once}
+use Rattle.call_contexts.proofs.Places.{pair_at}
 
 -- All items of a list, by their numbers.
 pub all-by : {T : Type 0} (P : T → Type 0) (items : List T) → ((number : ℕ) (item : T) → item_at number items ≡ Some item → P item) → All P items
 all-by P items each = λ i d inside. each (suc i) (get_or items i d) (slice_get-get_or items i d inside)
 
--- Items in an order: the earlier one comes before the later one.
-pub in-order : {T : Type 0} (R : T → T → Type 0) (items : List T) → AllPairs R items → (i j : ℕ) (a b : T) →
-    slice_get items i ≡ Some a → slice_get items j ≡ Some b → i < j → R a b
-in-order R items rising i j a b one other less =
-    subst (λ x. R x b) (get_or_from_slice_get items i a a one)
-    (subst (R (get_or items i a)) (get_or_from_slice_get items j b a other)
-    (rising i j a less (slice_get_within items j b other)))
-
--- So two items of which neither comes before the other have one number.
+-- Two items of an ordered list of which neither comes before the other have one number.
 pub order-once : {T : Type 0} (R : T → T → Type 0) (items : List T) → AllPairs R items → (n m : ℕ) (a b : T) →
     item_at n items ≡ Some a → item_at m items ≡ Some b → (R a b → ⊥) → (R b a → ⊥) → n ≡ m
 order-once R items rising zero m a b one other before behind = absurd (none-some a one)
 order-once R items rising (suc i) zero a b one other before behind = absurd (none-some b other)
 order-once R items rising (suc i) (suc j) a b one other before behind = by_order (cases_lt i j) where
   by_order : ((i < j) ⊎ (j ≤ i)) → suc i ≡ suc j
-  by_order (inl less) = absurd (before (in-order R items rising i j a b one other less))
+  by_order (inl less) = absurd (before (pair_at R items rising i j a b less one other))
   by_order (inr most) = by_other (cases_lt j i) where
     by_other : ((j < i) ⊎ (i ≤ j)) → suc i ≡ suc j
-    by_other (inl less) = absurd (behind (in-order R items rising j i b a other one less))
+    by_other (inl less) = absurd (behind (pair_at R items rising j i b a less other one))
     by_other (inr least) = omega (arith, most, least)
 
 -- A unit in a context has one place.
@@ -56,7 +50,7 @@ place-once image entry net is n m context address one other =
 pub place-unit : (net : Net) (n context address other at : ℕ) → IsPlaceOf net n context address → IsPlaceOf net n other at →
     (context ≡ other) × (address ≡ at)
 place-unit net n context address other at one two =
-    let same : one.place ≡ two.place = item-one net.places n one.place two.place one.there two.there in
+    let same : one.place ≡ two.place = item_at-same net.places n one.place two.place one.there two.there in
     (sym one.within ∙ ap (λ (p : Place). p.context) same ∙ two.within, sym one.same ∙ ap (λ (p : Place). p.address) same ∙ two.same)
 
 pub no-place : (net : Net) (context address : ℕ) → IsPlaceOf net 0 context address → ⊥
@@ -103,7 +97,7 @@ pub loop-header : (net : Net) (s context header other at : ℕ) → IsLoopAt net
 loop-header net s context header other at one two =
     place-unit net one.inst.header context header other at one.at
     (subst (λ (inst : LoopInst). IsPlaceOf net inst.header other at)
-    (item-one net.loops s two.inst one.inst two.there one.there) two.at)
+    (item_at-same net.loops s two.inst one.inst two.there one.there) two.at)
 
 pub no-loop : (net : Net) (context header : ℕ) → IsLoopAt net 0 context header → ⊥
 no-loop net context header at = none-some at.inst at.there

@@ -16,7 +16,8 @@ use Rattle.net_model.specs.Places.{IsPlaceOf}
 use Rattle.net_model.specs.Targets.{unit_at}
 use Rattle.net_model.specs.declared.unit.CodeUnit.{CodeUnit}
 use Rattle.net_model.specs.declared.unit.Content.TheVariants.{Unit as Stands}
-use Rattle.call_contexts.proofs.Items.{item-one, item-positive}
+use Rattle.flow_net.proofs.Numbers.{item_at-same}
+use Rattle.call_contexts.proofs.Items.{item-positive}
 use Rattle.call_contexts.proofs.NetItems.{context-at, place-positive}
 
 -- What an arc of a number is: arc 1, or a way on, a call or a return.
@@ -29,7 +30,7 @@ pub arc-of : (image : Image) (entry : ℕ) (net : Net) → IsNet image entry net
 arc-of image entry net is zero arc there = absurd (none-some arc there)
 arc-of image entry net is (suc zero) arc there =
     let one = is.arcs.first in
-    let same : one.0 ≡ arc = item-one net.arcs 1 one.0 arc one.1 there in
+    let same : one.0 ≡ arc = item_at-same net.arcs 1 one.0 arc one.1 there in
     Enters refl (ap (λ (a : NetArc). a.from) (sym same) ∙ one.2)
     (subst (λ (a : NetArc). IsPlaceOf net a.to 0 entry) same one.3)
 arc-of image entry net is (suc (suc n)) arc there =

@@ -14,7 +14,7 @@ use Rattle.net_model.specs.Net.{IsNet}
 use Rattle.net_model.specs.Places.{IsPlaceOf}
 use Rattle.loop_nest.proofs.Dominance.{same_or_other}
 use Rattle.loop_nest.proofs.Laminar.{inside}
-use Rattle.call_contexts.proofs.Items.{item-one}
+use Rattle.flow_net.proofs.Numbers.{item_at-same}
 use Rattle.call_contexts.proofs.NetItems.{context-at, loop-header, loop-of, loop-once, no-loop, scope-at}
 use Rattle.call_contexts.proofs.NetRanks.{AreRanked, contexts-earlier, header-least, header-less, made-rises, numeral-of}
 
@@ -91,7 +91,7 @@ module _ (image : Image) (entry : ℕ) (net : Net) (is : IsNet image entry net) 
   holds-unit scope number context address loop placed holds = by_scope (scope-at image entry net is number context address placed) where
     within : IsWithin net.loops scope placed.place.scope
     within = subst (λ (p : Place). IsWithin net.loops scope p.scope)
-        (item-one net.places number holds.place placed.place holds.there placed.there) holds.within
+        (item_at-same net.places number holds.place placed.place holds.there placed.there) holds.within
 
     by_scope : IsScopeOf image net context address placed.place.scope → HoldsUnit image net scope context address
     by_scope (inl (zero_scope, none)) =

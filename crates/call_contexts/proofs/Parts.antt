@@ -15,12 +15,23 @@ use Rattle.unit_graph.specs.declared.graph.Graphs.{Graphs}
 use Rattle.unit_graph.specs.declared.node.Unit.{Unit as Node}
 use Rattle.call_contexts.specs.Around.{AreUnitsOf, addresses_of}
 use Rattle.call_contexts.specs.Instances.{AreFirsts, HasParts, HasLayout}
-use Rattle.call_contexts.specs.Layout.{HasGraph, HasNode}
+use Rattle.call_contexts.specs.Layout.{HasGraph, HasGraphs, HasNode}
 use Rattle.call_contexts.specs.Programs.{IsProgram}
+use Rattle.call_contexts.specs.Spots.{IsLaidProgram}
 use Rattle.call_contexts.specs.declared.layout.Layout.{Layout}
 use Rattle.call_contexts.proofs.AroundLists.{header-among}
-use Rattle.call_contexts.proofs.Growing.{Grow, zip-at}
+use Rattle.call_contexts.proofs.Growing.{Grow}
+use Rattle.call_contexts.proofs.Zips.{zip_left}
 use Rattle.call_contexts.proofs.Nodes.{later_node}
+
+-- A layout is that of its program's graphs.
+pub program-graphs : (image : Image) (entry : ℕ) (graphs : Graphs) (nests : Nests) → IsProgram image entry graphs nests → HasGraphs image entry graphs
+program-graphs image entry graphs nests is = record { graphs_are = is.graphs_are; faultless = is.faultless }
+
+pub laid-program : (image : Image) (entry : ℕ) (graphs : Graphs) (nests : Nests) (layout : Layout) → HasLayout image entry graphs nests layout →
+    IsLaidProgram image entry graphs layout
+laid-program image entry graphs nests layout has =
+    record { graphs_are = program-graphs image entry graphs nests has.program; layout_is = has.layout_is }
 
 -- The unit at an address of a list.
 node-by : (found : Option Node) (address : ℕ) → option_map (λ (n : Node). n.address) found ≡ Some address →
@@ -65,21 +76,21 @@ pub parts-of : (image : Image) (entry : ℕ) (graphs : Graphs) (nests : Nests) (
 parts-of image entry graphs nests layout laid context inside =
     let out = laid.layout_is.laid in
     let (graph, has) = out.each context inside in
-    let looped = zip-at (IsNestOf image) graphs.graphs nests.nests laid.program.nests_are has.position graph has.is in
+    let looped = zip_left (IsNestOf image) graphs.graphs nests.nests laid.program.nests_are has.position graph has.is in
     let units = graph-units image entry graph (graph-in image entry graphs nests laid.program has.position graph has.is) in
     record {
       of = has.of;
       there = has.there;
       graph = graph;
-      loops = looped.partner;
+      loops = looped.0;
       base = get_or layout.bases.items context 0;
       parts = record {
         has = has;
-        looped = looped.there;
+        looped = looped.1;
         begins = slice_get-get_or layout.bases.items context 0 (let all = out.bases in omega (arith, all, inside));
       };
       units = subst (λ (f : ℕ). AreUnitsOf image f graph.units) has.same units;
-      nest = subst (λ (f : ℕ). IsNest image f looped.partner) has.same looped.related;
+      nest = subst (λ (f : ℕ). IsNest image f looped.0) has.same looped.2;
     }
 
 -- A context has one graph, one list of loops and one base.

@@ -1,7 +1,7 @@
--- What stands at the places of lists.
-use Rattle.std.proofs.Common.{◌≡◌, ℕ, zero, suc, ◌+◌, ◌<◌, ◌⊎◌, inl, inr, List, [], ◌∷◌, ◌++◌, length, map, drop, get_or, slice_get, AllPairs, Some, refl, sym, ap, subst, ◌∙◌, arith}
-use Rattle.std.specs.List.{AllZip}
+-- What stands at the places of lists, and in lists that are mapped or joined.
+use Rattle.std.proofs.Common.{◌≡◌, ℕ, zero, suc, ◌+◌, ◌<◌, ◌⊎◌, inl, inr, List, [], ◌∷◌, ◌++◌, length, map, drop, get_or, slice_get, AllPairs, Contains, Some, refl, ap, subst, ◌∙◌, arith}
 use Rattle.std.proofs.lemmas.Option.{get_or_from_slice_get, none-some, same_Some, slice_get-get_or, slice_get_within}
+use Rattle.loop_nest.proofs.Ordered.{cases-in, first-in, later-in, nothing-in}
 
 -- What stands among the images of a list is the image of what stands there.
 pub mapped_at : {X Y : Type 0} (f : X → Y) (xs : List X) (k : ℕ) (y : Y) → slice_get (map f xs) k ≡ Some y →
@@ -15,16 +15,35 @@ map_at f [] k x h = absurd (none-some x h)
 map_at {Y = Y} f (y ∷ ys) zero x h = ap (λ z. Some (f z)) (same_Some y x h)
 map_at f (y ∷ ys) (suc k) x h = map_at f ys k x h
 
--- Places of a list that is joined to another one.
+-- What mapped lists contain.
+pub in-map : {S T : Type 0} (f : S → T) (xs : List S) (x : S) → Contains xs x → Contains (map f xs) (f x)
+in-map f [] x there = absurd (nothing-in x there)
+in-map {S} {T} f (one ∷ more) x there = elim (cases-in one more x there) [
+  | inl here ↦ subst (λ (y : S). Contains (map f (one ∷ more)) (f y)) here (first-in (f one) (map f more))
+  | inr behind ↦ later-in (f one) (map f more) (f x) (in-map f more x behind)
+]
+
+pub from-map : {S T : Type 0} (f : S → T) (xs : List S) (y : T) → Contains (map f xs) y → (x : S) × Contains xs x × (f x ≡ y)
+from-map f [] y there = absurd (nothing-in y there)
+from-map f (one ∷ more) y there = elim (cases-in (f one) (map f more) y there) [
+  | inl here ↦ (one, first-in one more, here)
+  | inr behind ↦ let rest = from-map f more y behind in (rest.0, later-in one more rest.0 rest.1, rest.2)
+]
+
+-- What stands in the second of two lists that are joined, and in the first.
+pub behind-at : {X : Type 0} (xs ys : List X) (k : ℕ) → slice_get (xs ++ ys) (length xs + k) ≡ slice_get ys k
+behind-at [] ys k = ap (λ (n : ℕ). slice_get ys n) (omega arith)
+behind-at {X} (x ∷ xs) ys k =
+    let e : length (x ∷ xs) + k ≡ suc (length xs + k) = omega arith in
+    ap (λ (n : ℕ). slice_get (x ∷ (xs ++ ys)) n) e ∙ behind-at xs ys k
+
+pub front-at : {X : Type 0} (xs ys : List X) (k : ℕ) → k < length xs → slice_get (xs ++ ys) k ≡ slice_get xs k
+front-at [] ys k less = absurd (omega (arith, less))
+front-at (x ∷ xs) ys zero less = refl
+front-at (x ∷ xs) ys (suc k) less = front-at xs ys k (omega (arith, less))
+
 pub place_right : {X : Type 0} (xs ys : List X) (k : ℕ) (y : X) → slice_get ys k ≡ Some y → slice_get (xs ++ ys) (length xs + k) ≡ Some y
-place_right {X} [] ys k y h = subst (λ (i : ℕ). slice_get ys i ≡ Some y) e h
-  where
-    e : k ≡ 0 + k
-    e = omega arith
-place_right {X} (x ∷ xs) ys k y h = subst (λ (i : ℕ). slice_get (x ∷ (xs ++ ys)) i ≡ Some y) e (place_right xs ys k y h)
-  where
-    e : suc (length xs + k) ≡ suc (length xs) + k
-    e = omega arith
+place_right xs ys k y h = behind-at xs ys k ∙ h
 
 pub record StandsRight {X : Type 0} (xs ys : List X) (place : ℕ) (y : X) : Type 0 where
   pub at : ℕ
@@ -57,26 +76,3 @@ pairs_by R xs each i j d less within =
 pub behind_first : {X : Type 0} (xs : List X) (i : ℕ) → slice_get (drop 1 xs) i ≡ slice_get xs (suc i)
 behind_first [] i = refl
 behind_first (x ∷ xs) i = refl
-
--- Lists that go together.
-pub zip_left : {A B : Type 0} (R : A → B → Type 0) (xs : List A) (ys : List B) → AllZip R xs ys → (k : ℕ) (x : A) →
-    slice_get xs k ≡ Some x → (y : B) × (slice_get ys k ≡ Some y) × R x y
-zip_left R [] [] all k x h = absurd (none-some x h)
-zip_left R [] (b ∷ ys) all k x h = absurd all
-zip_left R (a ∷ xs) [] all k x h = absurd all
-zip_left {A} R (a ∷ xs) (b ∷ ys) all zero x h = (b, refl, subst (λ (one : A). R one b) (same_Some a x h) all.0)
-zip_left R (a ∷ xs) (b ∷ ys) all (suc k) x h = zip_left R xs ys all.1 k x h
-
-pub zip_right : {A B : Type 0} (R : A → B → Type 0) (xs : List A) (ys : List B) → AllZip R xs ys → (k : ℕ) (y : B) →
-    slice_get ys k ≡ Some y → (x : A) × (slice_get xs k ≡ Some x) × R x y
-zip_right R [] [] all k y h = absurd (none-some y h)
-zip_right R [] (b ∷ ys) all k y h = absurd all
-zip_right R (a ∷ xs) [] all k y h = absurd all
-zip_right {A} {B} R (a ∷ xs) (b ∷ ys) all zero y h = (a, refl, subst (λ (one : B). R a one) (same_Some b y h) all.0)
-zip_right R (a ∷ xs) (b ∷ ys) all (suc k) y h = zip_right R xs ys all.1 k y h
-
-pub zip_length : {A B : Type 0} (R : A → B → Type 0) (xs : List A) (ys : List B) → AllZip R xs ys → length ys ≡ length xs
-zip_length R [] [] all = refl
-zip_length R [] (b ∷ ys) all = absurd all
-zip_length R (a ∷ xs) [] all = absurd all
-zip_length R (a ∷ xs) (b ∷ ys) all = omega (arith, zip_length R xs ys all.1)

@@ -14,7 +14,7 @@ use Rattle.unit_graph.specs.Graphs.{AreGraphs, IsGraph, IsGraphIn, IsNode}
 use Rattle.unit_graph.specs.declared.graph.Graph.{Graph}
 use Rattle.unit_graph.specs.declared.graph.Graphs.{Graphs}
 use Rattle.unit_graph.specs.declared.node.Unit.{Unit as Node}
-use Rattle.call_contexts.proofs.GraphCalls.{from-map}
+use Rattle.call_contexts.proofs.Places.{from-map}
 use Rattle.call_contexts.proofs.GraphFunctions.{first_graph, graph_in}
 
 -- An item that passes, or what all fail.

@@ -36,6 +36,7 @@ use Rattle.net_model.proofs.Contents.{IsFetched-unit, unit-content}
 use Rattle.net_model.proofs.Steps.{IsDoneBy, IsWayOn, unit-goes}
 use Rattle.net_model.proofs.Zero.{IsZero}
 use Rattle.call_contexts.proofs.NetItems.{place-positive}
+use Rattle.call_contexts.proofs.NetRanks.{context-function}
 
 -- No segment holds a word at the place of return, so no unit stands there.
 none-there : (test : Segment → Bool) (segments : List Segment) → All EndsLow segments →
@@ -51,22 +52,6 @@ no-unit-there image unit standing =
     let fetched = (IsFetched-unit image return_address unit (unit-content image return_address unit standing)).instr in
     let none : code_at image.segments return_address ≡ None = rw (none-there is_code image.segments image.low) refl in
     let no = ap (λ (o : Option ℕ). o) none in cc
-
--- Each context is one of a function of the program.
-context-function : (image : Image) (entry : ℕ) (contexts : List Context) → AreContexts image entry contexts →
-    (low number : ℕ) (context : Context) → number < low → slice_get contexts number ≡ Some context →
-    IsFunction image entry context.target
-context-function image entry contexts are zero number context less there = absurd (omega (arith, less))
-context-function image entry contexts are (suc low) zero context less there =
-    let same : root entry ≡ context = same_Some (root entry) context (sym are.first ∙ there) in
-    subst (λ (c : Context). IsFunction image entry c.target) same main
-context-function image entry contexts are (suc low) (suc number) context less there =
-    let made = are.made (suc number) context there (Prim.omega arith) in
-    let parent = made.there in
-    let earlier = made.earlier in
-    further parent.context.target context.target
-    (context-function image entry contexts are low context.parent parent.context (omega (arith, earlier, less)) parent.there)
-    (record { address = context.site; reached = parent.reached; calls = made.calls })
 
 -- A unit stands at each address that a context's function reaches.
 stands-by : (image : Image) (entry function address : ℕ) → HasNoFault image entry → IsFunction image entry function →

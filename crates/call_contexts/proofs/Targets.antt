@@ -25,7 +25,8 @@ use Rattle.call_contexts.proofs.SpotNumbers.{inside-below, one-at, spot-inside, 
 use Rattle.call_contexts.proofs.LaidProgram.{node-is, number-once, number-rises}
 use Rattle.call_contexts.proofs.Quiet.{returns-quiet}
 use Rattle.call_contexts.proofs.WayCounts.{same-unit}
-use Rattle.call_contexts.proofs.Zips.{pairs-append, pairs-nil, pairs-one, zip-all, zip-length, zip-pairs, zip-sound, zip-whole}
+use Rattle.std.proofs.lemmas.Slice.Zip.{AllZip-long}
+use Rattle.call_contexts.proofs.Zips.{pairs-append, pairs-nil, pairs-one, zip-all, zip-pairs, zip-sound, zip-whole}
 
 -- The place to which a context returns is one.
 return-once : (image : Image) (entry : ℕ) (graphs : Graphs) (layout : Layout) (context to other : ℕ) →
@@ -160,8 +161,8 @@ targets-go image entry graphs layout context position node number ways calls lai
   few = omega (
     arith,
     length-append ways calls,
-    zip-length (IsNumberAt graphs.graphs layout context) (ways_of node) ways goes_to,
-    zip-length (IsCallTo graphs.graphs layout context node.address) node.calls calls enters_to,
+    AllZip-long (IsNumberAt graphs.graphs layout context) (ways_of node) ways goes_to,
+    AllZip-long (IsCallTo graphs.graphs layout context node.address) node.calls calls enters_to,
     ways-few node (stays node),
   );
 } where

@@ -22,14 +22,6 @@ use Rattle.call_contexts.proofs.HasItsArcs.{has-arcs}
 use Rattle.call_contexts.proofs.HasItsPlaces.{IsNetOf, has-places}
 use Rattle.call_contexts.proofs.LaidProgram.{node-is}
 
-pub program-graphs : (image : Image) (entry : ℕ) (graphs : Graphs) (nests : Nests) → IsProgram image entry graphs nests → HasGraphs image entry graphs
-program-graphs image entry graphs nests is = record { graphs_are = is.graphs_are; faultless = is.faultless }
-
-pub laid-program : (image : Image) (entry : ℕ) (graphs : Graphs) (nests : Nests) (layout : Layout) → HasLayout image entry graphs nests layout →
-    IsLaidProgram image entry graphs layout
-laid-program image entry graphs nests layout has =
-    record { graphs_are = program-graphs image entry graphs nests has.program; layout_is = has.layout_is }
-
 -- The parts of a net, as they are made of a layout.
 pub record IsMadeOf (image : Image) (entry : ℕ) (graphs : Graphs) (layout : Layout) (net : Net) : Type 0 where
   pub of : IsNetOf graphs layout net

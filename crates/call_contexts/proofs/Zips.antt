@@ -1,8 +1,9 @@
--- Lists whose items stand in pairs.
-use Rattle.std.proofs.Common.{◌≡◌, ℕ, zero, suc, ◌+◌, ◌<◌, ◌⊎◌, inl, inr, List, [], ◌∷◌, ◌++◌, length, All, AllPairs, Contains, refl, ap, subst, arith}
+-- Pairs of the items of a list, and lists whose items stand in pairs.
+use Rattle.std.proofs.Common.{◌≡◌, ℕ, zero, suc, ◌⊎◌, inl, inr, List, [], ◌∷◌, ◌++◌, slice_get, All, AllPairs, Contains, Some, refl, subst, arith}
 use Rattle.std.specs.List.{AllZip}
 use Rattle.std.proofs.lemmas.List.Elements.{All-append, All-cons, All-contains_itself, All-head, All-nil, All-tail, Contains-append_right}
 use Rattle.std.proofs.lemmas.List.Kept.{AllPairs-cons}
+use Rattle.std.proofs.lemmas.Option.{none-some, same_Some}
 use Rattle.loop_nest.proofs.Ordered.{cases-in, first-in, later-in, nothing-in, pairs-head, pairs-tail}
 
 pub pairs-nil : {T : Type 0} (R : T → T → Type 0) → AllPairs R []
@@ -53,8 +54,19 @@ pub zip-sound : {A B : Type 0} (P : A → B → Type 0) (S : B → Type 0) (xs :
     ((a : A) (b : B) → Contains xs a → P a b → S b) → All S ys
 zip-sound P S xs ys zip says = zip-all P (Contains xs) S xs ys zip (All-contains_itself xs) (λ a b is among. says a b among is)
 
-pub zip-length : {A B : Type 0} (P : A → B → Type 0) (xs : List A) (ys : List B) → AllZip P xs ys → length xs ≡ length ys
-zip-length P [] [] zip = refl
-zip-length P [] (y ∷ ys) zip = absurd zip
-zip-length P (x ∷ xs) [] zip = absurd zip
-zip-length P (x ∷ xs) (y ∷ ys) zip = ap suc (zip-length P xs ys zip.1)
+-- The partner of what stands at a place.
+pub zip_left : {A B : Type 0} (R : A → B → Type 0) (xs : List A) (ys : List B) → AllZip R xs ys → (k : ℕ) (x : A) →
+    slice_get xs k ≡ Some x → (y : B) × (slice_get ys k ≡ Some y) × R x y
+zip_left R [] [] all k x h = absurd (none-some x h)
+zip_left R [] (b ∷ ys) all k x h = absurd all
+zip_left R (a ∷ xs) [] all k x h = absurd all
+zip_left {A} R (a ∷ xs) (b ∷ ys) all zero x h = (b, refl, subst (λ (one : A). R one b) (same_Some a x h) all.0)
+zip_left R (a ∷ xs) (b ∷ ys) all (suc k) x h = zip_left R xs ys all.1 k x h
+
+pub zip_right : {A B : Type 0} (R : A → B → Type 0) (xs : List A) (ys : List B) → AllZip R xs ys → (k : ℕ) (y : B) →
+    slice_get ys k ≡ Some y → (x : A) × (slice_get xs k ≡ Some x) × R x y
+zip_right R [] [] all k y h = absurd (none-some y h)
+zip_right R [] (b ∷ ys) all k y h = absurd all
+zip_right R (a ∷ xs) [] all k y h = absurd all
+zip_right {A} {B} R (a ∷ xs) (b ∷ ys) all zero y h = (a, refl, subst (λ (one : B). R a one) (same_Some b y h) all.0)
+zip_right R (a ∷ xs) (b ∷ ys) all (suc k) y h = zip_right R xs ys all.1 k y h

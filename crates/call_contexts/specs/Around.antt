@@ -54,14 +54,6 @@ pub record AreNearest (units : List Node) (loops : List Loop) (done : ℕ) (arou
   pub each : (position : ℕ) (found : Option ℕ) (one : Node) → slice_get units position ≡ Some one →
       slice_get around position ≡ Some found → IsNearestBy loops done one.address found
 
--- The same while the next loop is looked at: it stands where some of the first units of its body do.
-pub record AreNearing (units : List Node) (loops : List Loop) (done : ℕ) (body : List ℕ) (around : List (Option ℕ)) : Type 0 where
-  pub count : length around ≡ length units
-  pub seen : (position : ℕ) (found : Option ℕ) (one : Node) → slice_get units position ≡ Some one →
-      slice_get around position ≡ Some found → Contains body one.address → IsNearestBy loops (done + 1) one.address found
-  pub left : (position : ℕ) (found : Option ℕ) (one : Node) → slice_get units position ≡ Some one →
-      slice_get around position ≡ Some found → (Contains body one.address → ⊥) → IsNearestBy loops done one.address found
-
 -- The inner one of two loops that hold a unit: the one of a position where the other one holds its header, else
 -- the other one.
 pub record IsInnerOf (loops : List Loop) (other position result : ℕ) : Type 0 where

@@ -1,13 +1,11 @@
 -- How the contexts and places of a program are counted: each function's from those of the functions that it calls.
 use Rattle.std.specs.Prelude.{◌≡◌, ℕ, ◌<◌, ◌+◌, ◌^◌, ◌∷◌, List, length, map, min, replicate, sum_by, All, AllPairs, Contains, Some, slice_get, slice_index_or}
 use Rattle.std.specs.List.{AllZip, flat_map}
-use Rattle.elf_mips.specs.declared.image.Image.{Image}
 use Rattle.mips_decode.specs.Transfer.{Call}
 use Rattle.step_table.specs.Cycles.{IsCyclic}
 use Rattle.step_table.specs.Table.{IsStep}
 use Rattle.unit_graph.specs.declared.graph.Graph.{Graph}
 use Rattle.unit_graph.specs.declared.node.Unit.{Unit as Node}
-use Rattle.call_contexts.specs.Sizes.{AreSizes}
 use Rattle.call_contexts.specs.declared.calls.Called.{Called}
 
 -- The graphs of different functions, the first one apart, the others by their rising entries.
@@ -101,11 +99,3 @@ pub record IsToldFirst (table : List (List ℕ)) (own : List ℕ) (told : ℕ) :
   pub total : ℕ → ℕ
   pub adds : AddsAlong table own total
   pub same : told ≡ told_of (total 0)
-
--- The numbers of a program's contexts and places are told.
-pub record AreTold (image : Image) (entry contexts places : ℕ) : Type 0 where
-  pub all_contexts : ℕ
-  pub all_places : ℕ
-  pub sizes : AreSizes image entry all_contexts all_places
-  pub contexts_told : contexts ≡ told_of all_contexts
-  pub places_told : places ≡ told_of all_places

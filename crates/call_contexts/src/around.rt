@@ -59,7 +59,7 @@ fn note_body(units: &[Unit], loops: &[Loop], position: usize, around: &mut [Opti
 ///
 /// Each unit is looked up once for each loop that holds it, in time in proportion to the logarithm of the
 /// units.
-pub fn around_of(
+fn around_of(
     alloc: Global,
     units: &[Unit],
     loops: &[Loop],
@@ -75,7 +75,7 @@ pub fn around_of(
 }
 
 /// Makes the own loops of the units from the loops round them: a header's is the one that it heads.
-pub fn own_headers(units: &[Unit], loops: &[Loop], numbers: &mut [Option<usize>])
+fn own_headers(units: &[Unit], loops: &[Loop], numbers: &mut [Option<usize>])
     requires function { AreOfFunction units.now loops.now }
     requires around { AreNearest units.now loops.now (length loops.now) numbers.old }
     ensures { AreOwn units.now loops.now (length loops.now) numbers.new }

@@ -88,7 +88,7 @@ fn is_too_many(sizes: Sizes) -> bool
 ///
 /// `NeverReturns` and `TooMany` come in this order; the numbers of contexts and places are counted before
 /// any context is made. It takes a bisection of the graphs for each call of a unit, and a step for each
-/// context.
+/// unit and each context.
 pub fn layout_of(alloc: Global, graphs: &Graphs) -> Result<Layout, NetFault>
     requires { (image : Image) × (entry : ℕ) × HasGraphs image entry graphs.now }
     ensures layout { IfOk result (λ layout. (image : Image) (entry : ℕ) → HasGraphs image entry graphs.now →

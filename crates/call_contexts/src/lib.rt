@@ -10,12 +10,8 @@ mod fault;
 mod index;
 mod instances;
 mod layout;
-#[cfg(test)]
-mod layout_tests;
 mod program;
 mod scopes;
-#[cfg(test)]
-mod shape_tests;
 mod sizes;
 mod spots;
 #[cfg(test)]

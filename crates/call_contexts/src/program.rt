@@ -65,7 +65,8 @@ fn net_of(alloc: Global, graphs: &Graphs, nests: &Nests, layout: &Layout) -> Res
 /// way by calls to it.
 ///
 /// `NeverReturns` and `TooMany` come in this order; the numbers of contexts and places are counted before
-/// anything is made. It takes time in proportion to the places and their arcs times a logarithm.
+/// anything is made. It takes time in proportion to the places, their arcs and the units in the bodies of
+/// the functions' loops, times a logarithm.
 pub fn expand(alloc: Global, graphs: &Graphs, nests: &Nests) -> Result<Net, NetFault>
     requires { (image : Image) × (entry : ℕ) × IsProgram image entry graphs.now nests.now }
     ensures net { IfOk result (λ net. (image : Image) (entry : ℕ) → IsProgram image entry graphs.now nests.now → IsNet image entry net) }

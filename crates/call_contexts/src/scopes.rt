@@ -5,8 +5,8 @@ ghost use Rattle.elf_mips.specs.declared.image.Image.{Image};
 ghost use Rattle.call_contexts.specs.Instances.{AreFirsts, AreScopes, HasRounds, HasLayout, IsRoundContext, scope_by};
 
 use crate::around::Rounds;
-use crate::index::position_of;
 use crate::layout::Layout;
+use crate::spots::number_at;
 use flow_net::Context;
 use loop_nest::Nests;
 use std::alloc::{AllocError, Global};
@@ -78,10 +78,8 @@ fn outer_of(
     if number == 0 {
         return 0;
     }
-    let parent = context.parent as usize;
-    let graph = &graphs.graphs.as_slice()[layout.functions[parent]];
-    let position = position_of(graph.units.as_slice(), context.site);
-    scopes[layout.bases[parent] as usize + position - 1]
+    let call = number_at(graphs, layout, context.parent, context.site);
+    scopes[call as usize - 1]
 }
 
 /// The scopes of a program's places.

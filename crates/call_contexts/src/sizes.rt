@@ -101,7 +101,7 @@ fn steps_of(alloc: Global, lists: &[List<Called>]) -> Result<Vec<List<usize>>, A
 }
 
 /// How many units each graph has.
-pub fn unit_counts(alloc: Global, graphs: &[Graph]) -> Result<Vec<u64>, AllocError>
+fn unit_counts(alloc: Global, graphs: &[Graph]) -> Result<Vec<u64>, AllocError>
     ensures { IfOk result (λ counts. counts.items ≡ unit_counts graphs.now) }
 {
     graphs

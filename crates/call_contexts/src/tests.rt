@@ -1,5 +1,8 @@
 //! How many contexts and places programs have, and programs without a net.
 
+mod layouts;
+mod shapes;
+
 use crate::{NetFault, expand};
 use elf_mips::{Image, read_image};
 use flow_net::Net;
@@ -9,15 +12,18 @@ use std::test::Fail;
 use unit_graph::function_graphs;
 
 /// Where the code begins.
-pub const START: u32 = 0x0040_0000;
+const START: u32 = 0x0040_0000;
 
 /// jr $31, and break.
-pub const RETURN: u32 = 0x03E0_0008;
+const RETURN: u32 = 0x03E0_0008;
 
-pub const BREAK: u32 = 0x0000_000D;
+const BREAK: u32 = 0x0000_000D;
+
+/// jal to the start; a jump to a word behind it adds that word's number.
+const CALL: u32 = 0x0C10_0000;
 
 /// A record: its kind, its address, and x.
-pub type Record = (u32, u32, u32);
+type Record = (u32, u32, u32);
 
 fn push_words(file: &mut Vec<u8>, words: &[u32]) -> Result<(), AllocError> {
     for word in words {
@@ -55,7 +61,8 @@ fn file_of(alloc: Global, words: &[u32], records: &[Record]) -> Result<Vec<u8>, 
     Ok(file)
 }
 
-pub fn image_of(alloc: Global, words: &[u32], records: &[Record]) -> Result<Image, Fail> {
+/// The image of these words, with these records.
+fn image_of(alloc: Global, words: &[u32], records: &[Record]) -> Result<Image, Fail> {
     let file = file_of(alloc, words, records)?;
     if file.len() > 1_000_000 {
         return Err("a long file".into());
@@ -64,11 +71,7 @@ pub fn image_of(alloc: Global, words: &[u32], records: &[Record]) -> Result<Imag
 }
 
 /// The net of these words, or why there is none.
-pub fn net_of(
-    alloc: Global,
-    words: &[u32],
-    records: &[Record],
-) -> Result<Result<Net, NetFault>, Fail> {
+fn net_of(alloc: Global, words: &[u32], records: &[Record]) -> Result<Result<Net, NetFault>, Fail> {
     let image = image_of(alloc, words, records)?;
     let Ok(graphs) = function_graphs(alloc, &image, START) else {
         return Err("a fault of the code".into());
@@ -79,26 +82,25 @@ pub fn net_of(
     Ok(expand(alloc, &graphs, &nests))
 }
 
-/// Functions in a row, each of which calls the next one twice.
-fn row_of(alloc: Global, functions: u32) -> Result<Vec<u32>, Fail> {
-    if functions > 100 {
-        return Err("a long row".into());
-    }
+/// So many functions in a chain, each of which calls the next one twice; the last one calls nothing, and the
+/// first one ends with the given word.
+fn chain(alloc: Global, count: u32, last: u32) -> Result<Vec<u32>, Fail> {
     let mut words = Vec::new(alloc);
-    for number in 1..functions {
-        let call = 0x0C00_0000 + (START + 24 * number) / 4;
-        words.extend_from_slice(&[call, 0, call, 0, RETURN, 0])?;
+    for function in 1..count {
+        let call = CALL.wrapping_add(function.wrapping_mul(6));
+        let end = if function == 1 { last } else { RETURN };
+        words.extend_from_slice(&[call, 0, call, 0, end, 0])?;
     }
     words.extend_from_slice(&[RETURN, 0])?;
     Ok(words)
 }
 
-/// How many contexts, places and arcs the net of a row of functions has, or why there is none.
+/// How many contexts, places and arcs the net of a chain has, or why there is none.
 fn sizes_of(
     alloc: Global,
     functions: u32,
 ) -> Result<Result<(usize, usize, usize), NetFault>, Fail> {
-    let words = row_of(alloc, functions)?;
+    let words = chain(alloc, functions, RETURN)?;
     match net_of(alloc, &words, &[])? {
         Ok(net) => Ok(Ok((
             net.contexts.as_slice().len(),

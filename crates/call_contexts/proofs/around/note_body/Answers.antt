@@ -2,10 +2,10 @@
 use Rattle.std.proofs.Common.{◌≡◌, ℕ, ◌<◌, ◌≤◌, ◌+◌, List, length, take, get_or, set, slice_get, Contains, Some, None, refl, sym, subst, arith}
 use Rattle.std.proofs.lemmas.List.Elements.{Contains-get_or}
 use Rattle.std.proofs.lemmas.Option.{slice_get-get_or, slice_get_read, slice_get_within}
-use Rattle.call_contexts.specs.Around.{AreNearing, addresses_of}
+use Rattle.call_contexts.specs.Around.{addresses_of}
 use Rattle.call_contexts.specs.Layout.{HasNode}
 use Rattle.call_contexts.proofs.AroundLaws.{loop-at}
-use Rattle.call_contexts.proofs.AroundLists.{body-among, nearing-all, nearing-low, nearing-skip, nearing-write}
+use Rattle.call_contexts.proofs.AroundLists.{AreNearing, body-among, nearing-all, nearing-low, nearing-skip, nearing-write}
 use Rattle.call_contexts.proofs.ScopeLists.{nearest-less}
 use Rattle.call_contexts.proofs.around.note_body.Goals as goal
 

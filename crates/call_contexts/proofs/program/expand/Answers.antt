@@ -8,7 +8,7 @@ use Rattle.call_contexts.specs.Programs.{IsProgram, TellsFault}
 use Rattle.call_contexts.specs.Sizes.{AreSizes}
 use Rattle.call_contexts.proofs.NestedNet.{net-nested}
 use Rattle.call_contexts.proofs.RunPaths.{runs-along}
-use Rattle.call_contexts.proofs.WholeNet.{program-graphs}
+use Rattle.call_contexts.proofs.Parts.{program-graphs}
 use Rattle.call_contexts.proofs.program.expand.Goals as goal
 
 pub layout_of-requires : goal.layout_of-requires

@@ -7,7 +7,8 @@ use Rattle.net_model.specs.Accesses.{accesses_from}
 use Rattle.call_contexts.specs.Arcs.{AreAllArcs}
 use Rattle.call_contexts.specs.Layout.{IsLaid}
 use Rattle.call_contexts.proofs.HasItsPlaces.{IsNetOf}
-use Rattle.call_contexts.proofs.WholeNet.{laid-program, made-net, made-units}
+use Rattle.call_contexts.proofs.WholeNet.{made-net, made-units}
+use Rattle.call_contexts.proofs.Parts.{laid-program}
 use Rattle.call_contexts.proofs.program.net_of.Goals as goal
 
 pub arcs_of-requires : goal.arcs_of-requires

@@ -1,6 +1,6 @@
 //! Nets of short programs, with their contexts, places, arcs and loop instances worked out by hand.
 
-use crate::tests::{BREAK, RETURN, Record, START, net_of};
+use super::{BREAK, RETURN, Record, START, net_of};
 use flow_net::Net;
 use std::alloc::Global;
 use std::test::Fail;

@@ -1,15 +1,12 @@
 //! Contexts of short programs, worked out by hand, and how many those of chains of functions are.
 
+use super::{CALL, RETURN, Record, START, chain, image_of};
 use crate::fault::NetFault;
 use crate::layout::{Layout, layout_of};
-use crate::tests::{RETURN, Record, START, image_of};
 use flow_net::Context;
 use std::alloc::Global;
 use std::test::Fail;
 use unit_graph::function_graphs;
-
-/// jal to the start; a jump to a word behind it adds that word's number.
-const CALL: u32 = 0x0C10_0000;
 
 /// beq $0, $0 to itself.
 const STAY: u32 = 0x1000_FFFF;
@@ -53,19 +50,6 @@ fn lays_out(
         ),
         Err(_) => Err("a fault".into()),
     }
-}
-
-/// So many functions in a chain, each of which calls the next one twice; the last one calls nothing, and the
-/// first one ends with the given word.
-fn chain(alloc: Global, count: u32, last: u32) -> Result<Vec<u32>, Fail> {
-    let mut words = Vec::new(alloc);
-    for function in 1..count {
-        let call = CALL.wrapping_add(function.wrapping_mul(6));
-        let end = if function == 1 { last } else { RETURN };
-        words.extend_from_slice(&[call, 0, call, 0, end, 0])?;
-    }
-    words.extend_from_slice(&[RETURN, 0])?;
-    Ok(words)
 }
 
 /// The fault of a chain, or the numbers of its contexts and of the next place.
