@@ -1,5 +1,5 @@
 -- How many arcs the places so far have: each call leads to a context of its own, so that the calls are fewer than the contexts.
-use Rattle.std.proofs.Common.{◌≡◌, ℕ, zero, suc, ◌+◌, ◌*◌, ◌<◌, ◌≤◌, ◌^◌, ◌⊎◌, inl, inr, List, [], ◌∷◌, ◌++◌, length, map, take, get_or, slice_get, All, AllPairs, Contains, Some, refl, sym, ap, subst, ◌∙◌, arith, length-append}
+use Rattle.std.proofs.Common.{◌≡◌, ℕ, suc, ◌+◌, ◌*◌, ◌<◌, ◌≤◌, ◌^◌, inl, inr, List, [], ◌∷◌, ◌++◌, length, take, get_or, slice_get, All, AllPairs, Some, refl, ap, subst, arith, length-append}
 use Rattle.std.specs.List.{AllZip}
 use Rattle.std.specs.Prelude.{sum_by}
 use Rattle.std.proofs.lemmas.List.{length-map}
@@ -19,7 +19,7 @@ use Rattle.call_contexts.specs.Layout.{HasGraph, IsLaidOut, IsMadeAs, IsSpot}
 use Rattle.call_contexts.specs.Spots.{IsLaidProgram, IsNumberAt}
 use Rattle.call_contexts.specs.declared.layout.Layout.{Layout}
 use Rattle.call_contexts.proofs.ContextOrder.{context-lower, made-rises}
-use Rattle.call_contexts.proofs.SpotNumbers.{IsLower, graph-once, one-at, spot-before}
+use Rattle.call_contexts.proofs.SpotNumbers.{IsLower, graph-once, spot-before}
 use Rattle.call_contexts.proofs.LaidProgram.{calls-there, graph-is, node-is}
 use Rattle.call_contexts.proofs.WayCounts.{weight, weights-few}
 use Rattle.std.proofs.lemmas.Slice.Zip.{AllZip-long}

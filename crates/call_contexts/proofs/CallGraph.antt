@@ -1,19 +1,16 @@
 -- The lists of calls of a program's graphs: their order, and that no steps lead back.
-use Rattle.std.proofs.Common.{◌≡◌, ℕ, zero, suc, ◌<◌, ◌⊎◌, inl, inr, List, [], ◌∷◌, ◌++◌, length, map, get_or, slice_get, All, AllPairs, Contains, Some, refl, sym, ap, subst, ◌∙◌, arith}
-use Rattle.std.specs.List.{AllZip}
+use Rattle.std.proofs.Common.{◌≡◌, ℕ, List, [], ◌∷◌, ◌++◌, length, map, get_or, slice_get, All, Contains, Some, refl, sym, ap, subst, ◌∙◌, arith}
 use Rattle.std.proofs.lemmas.List.{length-map}
 use Rattle.std.proofs.lemmas.List.Elements.{All-contains, Contains-get_or}
-use Rattle.std.proofs.lemmas.Option.{get_or_from_slice_get, none-some, same_Some, slice_get-get_or, slice_get_within}
+use Rattle.std.proofs.lemmas.Option.{get_or_from_slice_get, same_Some, slice_get-get_or, slice_get_within}
 use Rattle.elf_mips.specs.declared.image.Image.{Image}
-use Rattle.mips_decode.specs.Transfer.{Call}
 use Rattle.net_model.specs.declared.unit.CodeKind.TheVariants.{Recursion}
-use Rattle.net_model.specs.Faults.{HasNoFault, recursive}
+use Rattle.net_model.specs.Faults.{recursive}
 use Rattle.net_model.specs.Functions.{Calls, IsCallWay, IsFunction, further, main}
 use Rattle.step_table.proofs.Meeting.{a_step}
 use Rattle.step_table.proofs.Positions.{contains_at, place_of}
-use Rattle.step_table.specs.Cycles.{IsCyclic}
 use Rattle.step_table.specs.Table.{IsMet, IsStep, IsWithin}
-use Rattle.unit_graph.specs.Graphs.{AreGraphs, IsGraph, IsGraphIn, IsNode}
+use Rattle.unit_graph.specs.Graphs.{AreGraphs, IsGraphIn, IsNode}
 use Rattle.unit_graph.specs.declared.graph.Graph.{Graph}
 use Rattle.unit_graph.specs.declared.graph.Graphs.{Graphs}
 use Rattle.unit_graph.specs.declared.node.Unit.{Unit as Node}

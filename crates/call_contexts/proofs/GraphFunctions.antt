@@ -1,20 +1,19 @@
 -- The functions of a program and their graphs, by their positions.
-use Rattle.std.proofs.Common.{◌≡◌, ◌==◌, ℕ, zero, suc, ◌+◌, ◌<◌, ◌≤◌, ◌⊎◌, inl, inr, Bool, true, false, List, [], ◌∷◌, length, map, get_or, slice_get, All, AllPairs, Contains, Some, refl, sym, ap, subst, ◌∙◌, arith}
-use Rattle.std.specs.List.{AllZip, position_or_len}
-use Rattle.std.proofs.lemmas.Bool.{cases_lt, eqb-true}
+use Rattle.std.proofs.Common.{◌≡◌, ◌==◌, ℕ, zero, suc, ◌<◌, Bool, true, false, List, ◌∷◌, length, map, get_or, slice_get, All, AllPairs, Some, refl, sym, ap, subst, ◌∙◌, arith}
+use Rattle.std.specs.List.{position_or_len}
 use Rattle.std.proofs.lemmas.Bool.Decides.{Decides-eqb}
 use Rattle.std.proofs.lemmas.List.Sums.{position_or_len_is}
 use Rattle.std.proofs.lemmas.List.Elements.{All-contains}
-use Rattle.std.proofs.lemmas.Option.{get_or_from_slice_get, none-some, same_Some, slice_get-get_or, slice_get_within}
+use Rattle.std.proofs.lemmas.Option.{get_or_from_slice_get, same_Some, slice_get-get_or, slice_get_within}
 use Rattle.elf_mips.specs.declared.image.Image.{Image}
-use Rattle.net_model.specs.Functions.{Calls, IsFunction, further}
+use Rattle.net_model.specs.Functions.{IsFunction}
 use Rattle.step_table.proofs.Positions.{contains_at, place_of}
-use Rattle.unit_graph.specs.Graphs.{AreGraphs, IsGraph, IsGraphIn}
+use Rattle.unit_graph.specs.Graphs.{AreGraphs, IsGraphIn}
 use Rattle.unit_graph.specs.declared.graph.Graph.{Graph}
 use Rattle.unit_graph.specs.declared.graph.Graphs.{Graphs}
-use Rattle.call_contexts.specs.Counting.{AreListed, IsGraphAt, IsKnown}
+use Rattle.call_contexts.specs.Counting.{AreListed, IsGraphAt}
 use Rattle.call_contexts.proofs.GraphPlaces.{entry_of}
-use Rattle.call_contexts.proofs.Places.{mapped_at, map_at, pair_at}
+use Rattle.call_contexts.proofs.Places.{mapped_at, pair_at}
 
 pub listed_graphs : (image : Image) (entry : ℕ) (graphs : Graphs) → AreGraphs image entry graphs → AreListed graphs.graphs
 listed_graphs image entry graphs are = record { first = are.first; others = are.others; parts = are.parts; rising = are.rising }

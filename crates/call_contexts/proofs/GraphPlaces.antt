@@ -1,6 +1,6 @@
 -- Where the graph of a function stands.
-use Rattle.std.proofs.Common.{◌≡◌, ℕ, zero, suc, ◌+◌, ◌<◌, true, false, List, ◌∷◌, drop, length, map, slice_get, Some, AllPairs, nat_lt, refl, sym, ap, subst, ◌∙◌, arith}
-use Rattle.std.proofs.lemmas.Option.{same_Some, slice_get_read}
+use Rattle.std.proofs.Common.{◌≡◌, ℕ, zero, suc, ◌+◌, ◌<◌, List, drop, map, slice_get, Some, AllPairs, sym, ap, subst, ◌∙◌, arith}
+use Rattle.std.proofs.lemmas.Option.{same_Some}
 use Rattle.step_table.proofs.Positions.{place_of}
 use Rattle.unit_graph.specs.declared.graph.Graph.{Graph}
 use Rattle.call_contexts.specs.Counting.{AreListed, IsGraphAt, IsKnown}

@@ -1,17 +1,16 @@
 -- The arcs of a layout are those of a net.
-use Rattle.std.proofs.Common.{◌≡◌, ℕ, zero, suc, ◌+◌, ◌<◌, ◌≤◌, ◌||◌, ◌⊎◌, inl, inr, Bool, true, false, cond, List, [], ◌∷◌, length, get_or, slice_get, drop, All, AllPairs, Contains, Some, None, refl, sym, ap, subst, ◌∙◌, arith}
-use Rattle.std.proofs.lemmas.Option.{none-some, same_Some, slice_get-get_or, slice_get_within}
+use Rattle.std.proofs.Common.{◌≡◌, ℕ, zero, suc, ◌+◌, ◌<◌, ◌||◌, ◌⊎◌, inl, inr, Bool, true, false, cond, List, [], ◌∷◌, slice_get, drop, AllPairs, Contains, Some, refl, sym, ap, subst, ◌∙◌, arith}
+use Rattle.std.proofs.lemmas.Option.{slice_get-get_or}
 use Rattle.elf_mips.specs.declared.image.Image.{Image}
 use Rattle.flow_net.specs.Numbers.{item_at}
 use Rattle.flow_net.specs.declared.net.Context.{Context}
 use Rattle.flow_net.specs.declared.net.Net.{Net}
 use Rattle.flow_net.specs.declared.net.NetArc.{NetArc}
-use Rattle.flow_net.specs.declared.net.Place.{Place}
 use Rattle.net_model.specs.Contexts.{made_by, root}
 use Rattle.net_model.specs.Flow.{called, ways_on}
-use Rattle.net_model.specs.Functions.{CallsAt, GoesOn, onward, back}
+use Rattle.net_model.specs.Functions.{GoesOn, onward, back}
 use Rattle.net_model.specs.Net.{HasArcs, LeadsOn, LeadsTo, goes as leads_goes, calls as leads_calls, comes_back, ends}
-use Rattle.net_model.specs.Onward.{is_link_passed, returns}
+use Rattle.net_model.specs.Onward.{returns}
 use Rattle.net_model.specs.Places.{IsArcBefore, IsPlaceOf}
 use Rattle.net_model.specs.Targets.{is_none, unit_at}
 use Rattle.net_model.specs.declared.unit.CodeUnit.{CodeUnit}
@@ -20,9 +19,8 @@ use Rattle.loop_nest.proofs.Ordered.{first-in, nothing-in}
 use Rattle.unit_graph.specs.Graphs.{IsNode}
 use Rattle.unit_graph.specs.declared.graph.Graphs.{Graphs}
 use Rattle.unit_graph.specs.declared.node.Unit.{Unit as Node}
-use Rattle.call_contexts.specs.Arcs.{AreAllArcs, AreArcs, ComesBack, IsCallTo, IsFirstPlace, IsReturnTo, IsWay, Leads, goes, enters, returns as comes, arc_to, stays, ways_of}
-use Rattle.call_contexts.specs.Layout.{IsMadeAs, IsSpot}
-use Rattle.call_contexts.specs.Spots.{IsLaidProgram, IsNumberAt}
+use Rattle.call_contexts.specs.Arcs.{AreAllArcs, AreArcs, IsReturnTo, IsWay, Leads, goes, enters, returns as comes, arc_to, stays, ways_of}
+use Rattle.call_contexts.specs.Spots.{IsLaidProgram}
 use Rattle.call_contexts.specs.declared.layout.Layout.{Layout}
 use Rattle.call_contexts.proofs.HasItsPlaces.{IsNetOf, number-place, place-number}
 use Rattle.call_contexts.proofs.SpotNumbers.{one-at}

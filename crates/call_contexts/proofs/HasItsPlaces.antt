@@ -1,6 +1,6 @@
 -- Places that are laid out are those of a net.
-use Rattle.std.proofs.Common.{◌≡◌, ℕ, zero, suc, ◌+◌, ◌<◌, ◌≤◌, ◌⊎◌, inl, inr, List, [], ◌∷◌, length, get_or, slice_get, AllPairs, Some, refl, sym, ap, subst, ◌∙◌, arith}
-use Rattle.std.proofs.lemmas.Option.{slice_get-get_or, slice_get_within}
+use Rattle.std.proofs.Common.{◌≡◌, ℕ, suc, ◌<◌, inl, inr, List, length, get_or, slice_get, Some, sym, subst, ◌∙◌, arith}
+use Rattle.std.proofs.lemmas.Option.{slice_get-get_or}
 use Rattle.elf_mips.specs.declared.image.Image.{Image}
 use Rattle.flow_net.specs.Numbers.{item_at}
 use Rattle.flow_net.specs.declared.net.Context.{Context}
@@ -11,9 +11,8 @@ use Rattle.net_model.specs.Functions.{IsReached}
 use Rattle.net_model.specs.Net.{HasPlaces}
 use Rattle.net_model.specs.Places.{IsPlaceBefore, IsPlaceOf}
 use Rattle.unit_graph.specs.declared.graph.Graphs.{Graphs}
-use Rattle.unit_graph.specs.declared.node.Unit.{Unit as Node}
 use Rattle.call_contexts.specs.Layout.{IsLaid, IsPlaced, IsSpot}
-use Rattle.call_contexts.specs.Spots.{HasNumber, IsLaidProgram, IsNumberAt}
+use Rattle.call_contexts.specs.Spots.{IsLaidProgram, IsNumberAt}
 use Rattle.call_contexts.specs.declared.layout.Layout.{Layout}
 use Rattle.call_contexts.proofs.ArcCounts.{position-address}
 use Rattle.call_contexts.proofs.SpotNumbers.{IsLower, spot-before}

@@ -1,23 +1,19 @@
 -- What was counted and made is the layout of a program's contexts.
-use Rattle.std.proofs.Common.{◌≡◌, ℕ, zero, suc, ◌+◌, ◌-◌, ◌<◌, ◌≤◌, ◌⊎◌, inl, inr, List, length, map, take, get_or, slice_get, All, Some, sum_by, refl, sym, ap, subst, ◌∙◌, arith}
-use Rattle.std.proofs.Math.ListN.{length-replicate}
+use Rattle.std.proofs.Common.{◌≡◌, ℕ, suc, ◌+◌, ◌-◌, ◌<◌, ◌≤◌, inl, inr, List, length, take, get_or, slice_get, Some, sum_by, sym, ap, subst, ◌∙◌, arith}
 use Rattle.std.proofs.Math.Seq.{take-length}
 use Rattle.std.proofs.lemmas.List.{length-map}
 use Rattle.std.proofs.lemmas.List.Sums.{sum_by-take-le, sum_by_more}
 use Rattle.std.proofs.lemmas.Option.{get_or_from_slice_get, same_Some, slice_get-get_or, slice_get_within}
 use Rattle.elf_mips.specs.declared.image.Image.{Image}
-use Rattle.flow_net.specs.declared.net.Context.{Context}
-use Rattle.net_model.specs.Functions.{CanReturn}
 use Rattle.step_table.specs.Numbers.{number_of}
 use Rattle.unit_graph.specs.declared.graph.Graph.{Graph}
 use Rattle.unit_graph.specs.declared.graph.Graphs.{Graphs}
 use Rattle.call_contexts.specs.Counted.{IsCounted, IsFit}
-use Rattle.call_contexts.specs.Counting.{AddsAlong, AreCalled, IsGraphAt, IsToldFirst, IsTotalOfFirst, calls_in, ones_for, steps_of, unit_counts}
-use Rattle.call_contexts.specs.Expansion.{AreBases, AreExpanded, IsMade, SumsUp}
+use Rattle.call_contexts.specs.Counting.{AddsAlong, AreCalled, IsToldFirst, IsTotalOfFirst, calls_in, ones_for, steps_of, unit_counts}
+use Rattle.call_contexts.specs.Expansion.{IsMade}
 use Rattle.call_contexts.specs.Layout.{HasGraph, HasGraphs, IsLaidOut, IsLayout}
 use Rattle.call_contexts.specs.Programs.{AreTooMany, HasTooMany}
 use Rattle.call_contexts.specs.Sizes.{AreSizes, most_contexts, most_places}
-use Rattle.call_contexts.specs.declared.calls.Called.{Called}
 use Rattle.call_contexts.specs.declared.layout.Layout.{Layout}
 use Rattle.call_contexts.specs.declared.sizes.Counted.{Counted}
 use Rattle.call_contexts.proofs.CallGraph.{entry_apart, lists_rise, lists_within}

@@ -1,16 +1,15 @@
 -- What a laid out program has at its places: a unit of the context's function, with a place for each way on.
-use Rattle.std.proofs.Common.{◌≡◌, ℕ, zero, suc, ◌+◌, ◌<◌, ◌≤◌, ◌^◌, ◌⊎◌, inl, inr, true, List, [], ◌∷◌, length, map, get_or, slice_get, All, AllPairs, Contains, Option, Some, None, refl, sym, ap, subst, ◌∙◌, arith}
+use Rattle.std.proofs.Common.{◌≡◌, ℕ, zero, suc, ◌+◌, ◌<◌, ◌≤◌, ◌^◌, ◌⊎◌, inl, inr, true, List, [], ◌∷◌, map, get_or, slice_get, All, AllPairs, Contains, Option, Some, None, refl, sym, ap, subst, ◌∙◌, arith}
 use Rattle.std.proofs.lemmas.Bool.{cases_lt}
-use Rattle.std.proofs.lemmas.Option.{get_or_from_slice_get, none-some, slice_get_within}
-use Rattle.std.proofs.lemmas.List.Elements.{All-contains, All-contains_itself, All-weaker}
-use Rattle.elf_mips.specs.Segments.{EndsLow, code_at}
+use Rattle.std.proofs.lemmas.Option.{get_or_from_slice_get, slice_get_within}
+use Rattle.std.proofs.lemmas.List.Elements.{All-contains_itself, All-weaker}
+use Rattle.elf_mips.specs.Segments.{code_at}
 use Rattle.elf_mips.specs.declared.image.Image.{Image}
 use Rattle.flow_net.specs.declared.net.Context.{Context}
 use Rattle.mips_decode.specs.declared.instr.Instr.{Instr}
-use Rattle.mips_decode.specs.Step.{Fetched, Found, Missing, fetched, fetched_word}
-use Rattle.net_model.specs.Contexts.{AreContexts, IsMade, Reaches, made_by}
-use Rattle.net_model.specs.Functions.{CallsAt, CanReturn, GoesOn, IsReached, first, next, back, returned}
-use Rattle.net_model.specs.Onward.{returns}
+use Rattle.mips_decode.specs.Step.{Found, fetched_word}
+use Rattle.net_model.specs.Contexts.{made_by}
+use Rattle.net_model.specs.Functions.{CanReturn, GoesOn, IsReached, first, next, back, returned}
 use Rattle.net_model.specs.Targets.{unit_at}
 use Rattle.net_model.specs.declared.unit.CodeUnit.{CodeUnit}
 use Rattle.net_model.specs.declared.unit.Content.TheVariants.{Unit as Stands}
@@ -20,8 +19,8 @@ use Rattle.unit_graph.specs.declared.graph.Graph.{Graph}
 use Rattle.unit_graph.specs.declared.graph.Graphs.{Graphs}
 use Rattle.unit_graph.specs.declared.node.Unit.{Unit as Node}
 use Rattle.code_units.proofs.LowWords.{word_low}
-use Rattle.call_contexts.specs.Arcs.{ComesBack, HasCallTo, HasReturnTo, IsCallTo}
-use Rattle.call_contexts.specs.Layout.{HasGraph, HasNode, IsLaidOut, IsMadeAs, IsSpot}
+use Rattle.call_contexts.specs.Arcs.{HasCallTo, HasReturnTo}
+use Rattle.call_contexts.specs.Layout.{HasGraph, HasNode, IsSpot}
 use Rattle.call_contexts.specs.Spots.{HasNumber, IsLaidProgram, IsNumberAt}
 use Rattle.call_contexts.specs.declared.layout.Layout.{Layout}
 use Rattle.call_contexts.proofs.SpotNumbers.{base-at, graph-once, one-at, spot-inner}

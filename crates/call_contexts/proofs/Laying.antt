@@ -1,15 +1,14 @@
 -- Places that are laid one after the other, and what they are in the end.
-use Rattle.std.proofs.Common.{◌≡◌, ℕ, zero, suc, ◌+◌, ◌<◌, ◌≤◌, ◌⊎◌, inl, inr, List, [], ◌∷◌, ◌++◌, length, map, take, get_or, slice_get, Option, Some, None, refl, sym, ap, subst, ◌∙◌, arith, length-append}
+use Rattle.std.proofs.Common.{◌≡◌, ℕ, zero, suc, ◌+◌, ◌<◌, ◌⊎◌, inl, inr, List, [], ◌∷◌, ◌++◌, length, map, take, get_or, slice_get, Some, refl, sym, ap, subst, ◌∙◌, arith, length-append}
 use Rattle.std.proofs.lemmas.List.{map-append, take_more}
-use Rattle.std.proofs.lemmas.Bool.{cases_lt}
-use Rattle.std.proofs.lemmas.Option.{none-some, same_Some, slice_get_read, slice_get_within}
+use Rattle.std.proofs.lemmas.Option.{none-some, same_Some, slice_get_read}
 use Rattle.flow_net.specs.Numbers.{item_at}
 use Rattle.flow_net.specs.declared.net.Place.{Place}
 use Rattle.unit_graph.specs.declared.graph.Graph.{Graph}
 use Rattle.unit_graph.specs.declared.node.Unit.{Unit as Node}
 use Rattle.call_contexts.specs.Layout.{HasGraph, HasPlace, IsLaid, IsLaidOut, IsPlaced, IsSpot}
 use Rattle.call_contexts.specs.declared.layout.Layout.{Layout}
-use Rattle.call_contexts.proofs.SpotNumbers.{base-above, graph-within, one-at, some-at, spot-context, spot-inside, spot-once, spot-positive}
+use Rattle.call_contexts.proofs.SpotNumbers.{base-above, graph-within, some-at, spot-context, spot-inside, spot-once, spot-positive}
 
 -- The places of the numbers below a limit.
 pub record ArePlaces (graphs : List Graph) (layout : Layout) (limit : ℕ) (places : List Place) : Type 0 where

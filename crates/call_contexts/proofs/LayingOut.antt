@@ -1,28 +1,21 @@
 -- The contexts of a program, laid out.
-use Rattle.std.proofs.Common.{◌≡◌, ℕ, zero, suc, ◌+◌, ◌-◌, ◌<◌, ◌≤◌, ◌⊎◌, inl, inr, Bool, true, false, List, [], ◌∷◌, length, map, take, get_or, slice_get, All, Contains, Some, sum_by, refl, sym, ap, subst, ◌∙◌, arith}
-use Rattle.std.proofs.lemmas.List.{length-map}
-use Rattle.std.proofs.lemmas.List.Elements.{All-contains}
-use Rattle.std.proofs.lemmas.List.Sums.{sum_by-take-le, sum_by_more}
-use Rattle.std.proofs.lemmas.Option.{get_or_from_slice_get, same_Some, slice_get-get_or, slice_get_within}
+use Rattle.std.proofs.Common.{◌≡◌, ℕ, zero, suc, ◌<◌, List, length, get_or, slice_get, Contains, Some, sym, ap, subst, ◌∙◌, arith}
+use Rattle.std.proofs.lemmas.Option.{same_Some, slice_get-get_or, slice_get_within}
 use Rattle.elf_mips.specs.declared.image.Image.{Image}
 use Rattle.flow_net.specs.declared.net.Context.{Context}
 use Rattle.mips_decode.specs.Transfer.{Call}
 use Rattle.net_model.specs.Contexts.{AreContexts, IsMade, Reaches, made_by, root}
 use Rattle.net_model.specs.Functions.{CallsAt, IsReached}
-use Rattle.step_table.proofs.Positions.{contains_at, place_of}
-use Rattle.step_table.specs.Numbers.{number_of}
 use Rattle.unit_graph.specs.Graphs.{AreGraphs}
 use Rattle.unit_graph.specs.declared.graph.Graph.{Graph}
 use Rattle.unit_graph.specs.declared.graph.Graphs.{Graphs}
-use Rattle.call_contexts.specs.Counting.{AreCallLists, IsGraphAt, call_of, unit_counts}
-use Rattle.call_contexts.specs.Expansion.{AreBases, AreExpanded, HasCalls, IsMadeIn, context_of}
-use Rattle.call_contexts.specs.Layout.{HasGraph, HasGraphs, IsLaidOut, IsLayout, IsMadeAs}
-use Rattle.call_contexts.specs.Sizes.{IsCallOf, most_contexts, most_places}
+use Rattle.call_contexts.specs.Counting.{AreCallLists, IsGraphAt, call_of}
+use Rattle.call_contexts.specs.Expansion.{AreExpanded, HasCalls, IsMadeIn}
+use Rattle.call_contexts.specs.Sizes.{IsCallOf}
 use Rattle.call_contexts.specs.declared.calls.Called.{Called}
-use Rattle.call_contexts.specs.declared.layout.Layout.{Layout}
-use Rattle.call_contexts.proofs.CallGraph.{HasList, called_are, called_by, graph_of, list_of, placed_by}
+use Rattle.call_contexts.proofs.CallGraph.{called_are, called_by, graph_of, list_of, placed_by}
 use Rattle.call_contexts.proofs.GraphFunctions.{first_graph}
-use Rattle.call_contexts.proofs.Places.{from-map, map_at}
+use Rattle.call_contexts.proofs.Places.{from-map}
 
 -- The contexts that a program's lists of calls make, all of which have made theirs.
 pub record AreMadeAll (image : Image) (entry : ℕ) (graphs : Graphs) (lists : List (List Called)) (contexts : List Context) (functions : List ℕ) (count : ℕ) : Type 0 where

@@ -1,12 +1,12 @@
 -- The number that a context has among different ones.
-use Rattle.std.proofs.Common.{◌≡◌, ◌≢◌, ℕ, ◌<◌, ◌≤◌, ◌⊎◌, inl, inr, ◌==◌, ◌&&◌, Bool, true, false, List, length, get_or, slice_get, position, Option, Some, None, Contains, AllPairs, if◌then◌else◌, nat_lt, refl, sym, ap, subst, ◌∙◌, arith, true≢false}
+use Rattle.std.proofs.Common.{◌≡◌, ◌≢◌, ℕ, ◌<◌, ◌≤◌, ◌⊎◌, inl, inr, ◌==◌, ◌&&◌, Bool, true, false, List, length, get_or, slice_get, position, Some, None, AllPairs, if◌then◌else◌, sym, ap, subst, ◌∙◌, arith, true≢false}
 use Rattle.std.specs.Bool.{Decides}
 use Rattle.std.specs.List.{position_or_len}
 use Rattle.std.proofs.lemmas.Bool.{cases_lt, lt-ltb}
 use Rattle.std.proofs.lemmas.Bool.Decides.{Decides-and, Decides-eqb, Decides-like}
 use Rattle.std.proofs.lemmas.List.Quantifiers.{position-Some}
 use Rattle.std.proofs.lemmas.List.Sums.{fails_before_first}
-use Rattle.std.proofs.lemmas.Option.{get_or_from_slice_get, none-some, slice_get-get_or, slice_get_within}
+use Rattle.std.proofs.lemmas.Option.{get_or_from_slice_get, none-some, slice_get_within}
 use Rattle.flow_net.specs.declared.net.Context.{Context}
 use Rattle.net_model.specs.Contexts.{made_by}
 use Rattle.call_contexts.specs.Layout.{IsMadeAs}

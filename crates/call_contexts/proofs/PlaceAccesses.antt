@@ -1,17 +1,15 @@
 -- The accesses of one place more.
-use Rattle.std.proofs.Common.{◌≡◌, ℕ, zero, suc, ◌+◌, ◌<◌, ◌^◌, Bool, true, false, List, [], ◌∷◌, ◌++◌, length, take, get_or, slice_get, Option, Some, None, is_some, cond, refl, sym, ap, subst, ◌∙◌, arith, append_assoc}
+use Rattle.std.proofs.Common.{◌≡◌, ℕ, zero, suc, ◌+◌, Bool, List, [], ◌∷◌, ◌++◌, take, slice_get, Option, Some, is_some, cond, sym, ap, subst, ◌∙◌, arith, append_assoc}
 use Rattle.std.proofs.lemmas.List.{append-nil}
-use Rattle.std.proofs.lemmas.Option.{slice_get_read}
 use Rattle.elf_mips.specs.declared.image.Image.{Image}
 use Rattle.flow_net.specs.declared.net.Access.{Access}
 use Rattle.flow_net.specs.declared.net.Place.{Place}
 use Rattle.flow_net.specs.declared.net.Role.TheVariants.{Fetch, Slot}
-use Rattle.net_model.specs.Accesses.{access, accesses_from, content_accesses, load_access, unit_accesses}
+use Rattle.net_model.specs.Accesses.{access, accesses_from, content_accesses, load_access}
 use Rattle.net_model.specs.Targets.{unit_at}
 use Rattle.net_model.specs.declared.unit.CodeUnit.{CodeUnit}
 use Rattle.net_model.specs.declared.unit.Content.{Content}
-use Rattle.net_model.specs.declared.unit.Content.TheVariants.{Unit as Stands}
-use Rattle.unit_graph.specs.Graphs.{Describes, IsNode}
+use Rattle.unit_graph.specs.Graphs.{IsNode}
 use Rattle.unit_graph.specs.declared.graph.Graphs.{Graphs}
 use Rattle.unit_graph.specs.declared.node.Unit.{Unit as Node}
 use Rattle.call_contexts.specs.Accesses.{node_accesses}
@@ -19,7 +17,7 @@ use Rattle.call_contexts.specs.Layout.{IsLaid, IsPlaced, IsSpot}
 use Rattle.call_contexts.specs.Spots.{IsLaidProgram}
 use Rattle.call_contexts.specs.declared.layout.Layout.{Layout}
 use Rattle.call_contexts.proofs.SpotNumbers.{spot-once}
-use Rattle.call_contexts.proofs.LaidProgram.{node-is, unit-low}
+use Rattle.call_contexts.proofs.LaidProgram.{node-is}
 
 -- The accesses of a node are those of its unit.
 slot-same : (number address : ℕ) (slot : Bool) (unit : CodeUnit) → slot ≡ is_some unit.slot →

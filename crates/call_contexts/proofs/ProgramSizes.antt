@@ -1,14 +1,14 @@
 -- Totals along the calls of a program's graphs are its sizes.
-use Rattle.std.proofs.Common.{◌≡◌, ℕ, ◌+◌, ◌<◌, ◌⊎◌, inl, inr, List, [], ◌∷◌, length, map, get_or, replicate, slice_get, All, AllPairs, Contains, Some, sum_by, refl, sym, ap, subst, ◌∙◌, arith}
+use Rattle.std.proofs.Common.{◌≡◌, ℕ, ◌+◌, ◌<◌, inl, inr, List, [], ◌∷◌, length, map, get_or, slice_get, All, Some, sum_by, refl, sym, ap, subst, ◌∙◌, arith}
 use Rattle.std.proofs.Math.ListN.{length-replicate}
 use Rattle.std.proofs.lemmas.List.{length-map}
 use Rattle.std.proofs.lemmas.List.Elements.{All-contains}
 use Rattle.std.proofs.lemmas.List.Sums.{sum_by-cons}
-use Rattle.std.proofs.lemmas.Option.{get_or_from_slice_get, same_Some, slice_get-get_or, slice_get_within}
+use Rattle.std.proofs.lemmas.Option.{get_or_from_slice_get, slice_get-get_or, slice_get_within}
 use Rattle.elf_mips.specs.declared.image.Image.{Image}
 use Rattle.loop_nest.proofs.Ordered.{ordered-same}
 use Rattle.mips_decode.specs.Transfer.{Call}
-use Rattle.net_model.specs.Functions.{IsFunction, IsReached, main}
+use Rattle.net_model.specs.Functions.{IsReached}
 use Rattle.step_table.specs.Numbers.{number_of}
 use Rattle.unit_graph.specs.Graphs.{AreGraphs, AreJust}
 use Rattle.unit_graph.specs.declared.graph.Graph.{Graph}
@@ -17,7 +17,7 @@ use Rattle.unit_graph.specs.declared.node.Unit.{Unit as Node}
 use Rattle.call_contexts.specs.Counting.{AddsAlong, AreCallLists, IsGraphAt, call_of, ones_for, steps_in, steps_of, unit_counts}
 use Rattle.call_contexts.specs.Sizes.{AddsUp, AreCallsOf, AreSizes, CountsUnits, IsCallAfter, IsCallOf}
 use Rattle.call_contexts.specs.declared.calls.Called.{Called}
-use Rattle.call_contexts.proofs.CallGraph.{called_are, list_of, placed_by}
+use Rattle.call_contexts.proofs.CallGraph.{called_are, list_of}
 use Rattle.call_contexts.proofs.GraphCalls.{graph_units-are}
 use Rattle.call_contexts.proofs.GraphFunctions.{first_graph, function_at, graph_in, place_in, place_in-is}
 use Rattle.call_contexts.proofs.Places.{map_at}

@@ -1,5 +1,5 @@
 -- What units that return or call do beside that.
-use Rattle.std.proofs.Common.{◌≡◌, ℕ, ◌+◌, ◌==◌, ◌||◌, ◌&&◌, ◌⊎◌, inl, inr, Bool, true, false, not, cond, List, [], ◌∷◌, ◌++◌, Contains, refl, sym, ap, subst, ◌∙◌, arith}
+use Rattle.std.proofs.Common.{◌≡◌, ℕ, ◌+◌, ◌==◌, ◌&&◌, Bool, true, false, not, cond, List, [], ◌∷◌, Contains, refl}
 use Rattle.elf_mips.specs.declared.image.Image.{Image}
 use Rattle.mips_decode.specs.declared.instr.BranchOp.{BranchOp}
 use Rattle.mips_decode.specs.declared.instr.Instr.{Instr}
@@ -9,7 +9,7 @@ use Rattle.net_model.specs.declared.unit.CodeUnit.{CodeUnit}
 use Rattle.net_model.specs.Flow.{called, callees, own_ways, passed_way, ways_on}
 use Rattle.net_model.specs.Onward.{branch_ways, is_link_passed, is_return, may_be_passed, may_be_taken, returns, stops}
 use Rattle.net_model.specs.Targets.{targets_at}
-use Rattle.loop_nest.proofs.Ordered.{first-in, nothing-in, only-in}
+use Rattle.loop_nest.proofs.Ordered.{first-in, nothing-in}
 
 -- `jr $31` has no ways and calls nothing.
 return-ways : (image : Image) (instr : Instr) (address : ℕ) → is_return instr ≡ true →

@@ -1,5 +1,5 @@
 -- Whether a program's entry function returns.
-use Rattle.std.proofs.Common.{◌≡◌, ◌||◌, ◌⊎◌, inl, inr, ℕ, Bool, true, false, List, [], ◌∷◌, map, slice_get, Contains, Some, ⊎_elim, refl, sym, ap, subst, ◌∙◌, true≢false}
+use Rattle.std.proofs.Common.{◌≡◌, ◌||◌, ◌⊎◌, inl, inr, ℕ, Bool, true, false, List, [], ◌∷◌, slice_get, Contains, Some, ⊎_elim, refl, sym, ap, subst, ◌∙◌, true≢false}
 use Rattle.std.specs.List.{list_any}
 use Rattle.std.proofs.lemmas.List.Elements.{All-contains}
 use Rattle.std.proofs.lemmas.Option.{same_Some}
@@ -10,7 +10,7 @@ use Rattle.net_model.specs.declared.unit.Content.TheVariants.{Unit as Stands}
 use Rattle.net_model.specs.Functions.{CanReturn, IsReached, returned}
 use Rattle.net_model.specs.Onward.{returns}
 use Rattle.net_model.specs.Targets.{unit_at}
-use Rattle.unit_graph.specs.Graphs.{AreGraphs, IsGraph, IsGraphIn, IsNode}
+use Rattle.unit_graph.specs.Graphs.{AreGraphs, IsGraph, IsNode}
 use Rattle.unit_graph.specs.declared.graph.Graph.{Graph}
 use Rattle.unit_graph.specs.declared.graph.Graphs.{Graphs}
 use Rattle.unit_graph.specs.declared.node.Unit.{Unit as Node}

@@ -1,6 +1,6 @@
 -- Every run of a program whose indirect transfers go to recorded targets and which returns to its callers goes along
 -- a path of the net.
-use Rattle.std.proofs.Common.{◌≡◌, ℕ, zero, suc, ◌+◌, ◌<◌, ◌≤◌, ◌&&◌, ◌⊎◌, inl, inr, Bool, true, false, List, [], ◌∷◌, All, Contains, Option, None, Some, slice_get, refl, ap, sym, subst, ◌∙◌, arith}
+use Rattle.std.proofs.Common.{◌≡◌, ℕ, suc, ◌+◌, ◌<◌, ◌≤◌, ◌&&◌, ◌⊎◌, inl, inr, Bool, true, false, List, [], ◌∷◌, All, Contains, Option, None, refl, ap, sym, subst, ◌∙◌, arith}
 use Rattle.std.specs.Prelude.{find}
 use Rattle.std.specs.List.{AllZip}
 use Rattle.std.proofs.lemmas.Bool.Decides.{nat_tests}
@@ -23,10 +23,10 @@ use Rattle.mips_decode.specs.Transfer.{Call, Linking, Straight, Calls, Returns}
 use Rattle.net_model.specs.declared.unit.CodeUnit.{CodeUnit}
 use Rattle.net_model.specs.declared.unit.Content.{Content}
 use Rattle.net_model.specs.declared.unit.Content.TheVariants.{Unit as Stands, Fault}
-use Rattle.net_model.specs.Contexts.{AreContexts, IsContextOf, Reaches, made_by, root}
+use Rattle.net_model.specs.Contexts.{IsContextOf, Reaches, made_by, root}
 use Rattle.net_model.specs.Faults.{HasNoFault, faulty}
 use Rattle.net_model.specs.Flow.{called, ways_on}
-use Rattle.net_model.specs.Functions.{CanReturn, GoesOn, IsFunction, IsReached, back, first, further, main, next, onward, returned}
+use Rattle.net_model.specs.Functions.{CanReturn, GoesOn, IsFunction, IsReached, back, first, next, onward, returned}
 use Rattle.net_model.specs.Net.{IsNet, LeadsOn, LeadsTo, calls as leads_in, comes_back, ends, goes}
 use Rattle.net_model.specs.Onward.{returns}
 use Rattle.net_model.specs.Places.{IsPlaceOf}

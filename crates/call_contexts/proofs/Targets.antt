@@ -1,13 +1,12 @@
 -- The targets of a unit's arcs: its ways, then its calls; or where it returns.
-use Rattle.std.proofs.Common.{◌≡◌, ℕ, zero, suc, ◌+◌, ◌<◌, ◌≤◌, ◌⊎◌, inl, inr, Bool, true, false, cond, List, [], ◌∷◌, ◌++◌, length, slice_get, All, AllPairs, Contains, refl, sym, ap, subst, ◌∙◌, arith, length-append}
+use Rattle.std.proofs.Common.{◌≡◌, ℕ, ◌+◌, ◌<◌, ◌≤◌, inl, inr, Bool, true, false, cond, List, [], ◌∷◌, ◌++◌, length, All, AllPairs, Contains, sym, subst, ◌∙◌, arith, length-append}
 use Rattle.std.specs.List.{AllZip}
 use Rattle.std.proofs.lemmas.List.Elements.{All-append, All-cons, All-nil, Contains-append_left, Contains-append_right}
 use Rattle.elf_mips.specs.declared.image.Image.{Image}
 use Rattle.flow_net.specs.declared.net.Context.{Context}
 use Rattle.net_model.specs.Contexts.{made_by}
 use Rattle.net_model.specs.Flow.{called, ways_on}
-use Rattle.net_model.specs.Functions.{CallsAt, GoesOn, onward, back}
-use Rattle.net_model.specs.Onward.{is_link_passed, returns}
+use Rattle.net_model.specs.Functions.{GoesOn, onward, back}
 use Rattle.net_model.specs.Places.{IsTargetBefore}
 use Rattle.net_model.specs.Targets.{unit_at}
 use Rattle.net_model.specs.declared.unit.CodeUnit.{CodeUnit}
@@ -16,8 +15,8 @@ use Rattle.loop_nest.proofs.Ordered.{first-in, nothing-in}
 use Rattle.unit_graph.specs.Graphs.{IsNode}
 use Rattle.unit_graph.specs.declared.graph.Graphs.{Graphs}
 use Rattle.unit_graph.specs.declared.node.Unit.{Unit as Node}
-use Rattle.call_contexts.specs.Arcs.{AreTargets, ComesBack, IsCallTo, IsReturnTo, Leads, goes, enters, returns as comes, stays, ways_of}
-use Rattle.call_contexts.specs.Layout.{IsMadeAs, IsSpot}
+use Rattle.call_contexts.specs.Arcs.{AreTargets, IsCallTo, IsReturnTo, Leads, goes, enters, returns as comes, stays, ways_of}
+use Rattle.call_contexts.specs.Layout.{IsSpot}
 use Rattle.call_contexts.specs.Spots.{IsLaidProgram, IsNumberAt}
 use Rattle.call_contexts.specs.declared.layout.Layout.{Layout}
 use Rattle.call_contexts.proofs.ContextOrder.{made-once, made-rises}
@@ -26,7 +25,7 @@ use Rattle.call_contexts.proofs.LaidProgram.{node-is, number-once, number-rises}
 use Rattle.call_contexts.proofs.Quiet.{returns-quiet}
 use Rattle.call_contexts.proofs.WayCounts.{same-unit}
 use Rattle.std.proofs.lemmas.Slice.Zip.{AllZip-long}
-use Rattle.call_contexts.proofs.Zips.{pairs-append, pairs-nil, pairs-one, zip-all, zip-pairs, zip-sound, zip-whole}
+use Rattle.call_contexts.proofs.Zips.{pairs-append, pairs-nil, pairs-one, zip-pairs, zip-sound, zip-whole}
 
 -- The place to which a context returns is one.
 return-once : (image : Image) (entry : ℕ) (graphs : Graphs) (layout : Layout) (context to other : ℕ) →

@@ -1,22 +1,22 @@
 -- How many onward units the units of a function have in all: the targets that are recorded for indirect jumps are no more
 -- than the records, and no more than the function's units for each jump; every other unit has at most three.
-use Rattle.std.proofs.Common.{◌≡◌, ℕ, suc, ◌+◌, ◌*◌, ◌<◌, ◌≤◌, ◌==◌, ◌||◌, ◌&&◌, ◌⊎◌, inl, inr, Bool, true, false, not, cond, List, [], ◌∷◌, ◌++◌, length, map, filter, get_or, All, AllPairs, Contains, refl, sym, ap, subst, ◌∙◌, arith, nat_le, length-append}
+use Rattle.std.proofs.Common.{◌≡◌, ℕ, suc, ◌+◌, ◌*◌, ◌<◌, ◌≤◌, ◌==◌, ◌⊎◌, inl, inr, Bool, true, false, cond, List, [], ◌∷◌, ◌++◌, length, map, filter, All, AllPairs, Contains, refl, ap, subst, ◌∙◌, arith, nat_le, length-append}
 use Rattle.std.specs.Prelude.{sum_by, count_by}
 use Rattle.std.proofs.lemmas.Bool.{cases_lt}
 use Rattle.std.proofs.lemmas.Bool.Decides.{nat_tests}
 use Rattle.std.proofs.lemmas.List.{length-map}
-use Rattle.std.proofs.lemmas.List.Elements.{All-contains, All-contains_itself, All-head, All-tail, All-weaker, Contains-append_cases, Contains-append_left, Contains-append_right}
+use Rattle.std.proofs.lemmas.List.Elements.{All-contains, All-head, All-tail, All-weaker, Contains-append_cases, Contains-append_left, Contains-append_right}
 use Rattle.std.proofs.lemmas.List.Sums.{length-filter, sum_by-cons, sum_by-le, count_by-le-length}
 use Rattle.elf_mips.specs.declared.image.Image.{Image}
 use Rattle.elf_mips.specs.declared.mark.Mark.{Mark}
 use Rattle.mips_decode.specs.declared.instr.BranchOp.{BranchOp}
 use Rattle.mips_decode.specs.declared.instr.Instr.{Instr}
 use Rattle.mips_decode.specs.declared.instr.Instr.TheVariants.{Three, Shift, HiLo, MulDiv, Imm, Lui, Load, Store, Branch, Jump, JumpReg, JumpLink, Stop}
-use Rattle.mips_decode.specs.Transfer.{branch_links, branch_target, jump_target}
+use Rattle.mips_decode.specs.Transfer.{branch_links, jump_target}
 use Rattle.net_model.specs.declared.unit.CodeUnit.{CodeUnit}
 use Rattle.net_model.specs.declared.unit.Content.TheVariants.{Unit as Stands}
 use Rattle.net_model.specs.Flow.{own_ways, passed_way, ways_on}
-use Rattle.net_model.specs.Functions.{GoesOn, IsReached, next, onward, back}
+use Rattle.net_model.specs.Functions.{GoesOn, next, onward, back}
 use Rattle.net_model.specs.Onward.{branch_ways, may_be_passed, may_be_taken, stops}
 use Rattle.net_model.specs.Targets.{names_target, targets_at, unit_at}
 use Rattle.loop_nest.proofs.Ordered.{cases-in, first-in, later-in, nothing-in, pairs-head, pairs-tail}

@@ -1,5 +1,5 @@
 -- The parts of a layout together are a program's net.
-use Rattle.std.proofs.Common.{◌≡◌, ℕ, zero, suc, ◌<◌, length, get_or, map, slice_get, All, Some, sym, ap, subst, ◌∙◌, List, arith}
+use Rattle.std.proofs.Common.{◌≡◌, ℕ, suc, get_or, sym, subst}
 use Rattle.std.proofs.lemmas.Option.{slice_get-get_or}
 use Rattle.elf_mips.specs.declared.image.Image.{Image}
 use Rattle.flow_net.specs.declared.net.Net.{Net}
@@ -10,12 +10,9 @@ use Rattle.net_model.specs.Net.{IsNet}
 use Rattle.net_model.specs.Instances.{HasInstances}
 use Rattle.net_model.specs.Targets.{unit_at}
 use Rattle.net_model.specs.declared.unit.Content.TheVariants.{Unit as Stands}
-use Rattle.loop_nest.specs.declared.nest.Nests.{Nests}
 use Rattle.unit_graph.specs.declared.graph.Graphs.{Graphs}
 use Rattle.call_contexts.specs.Arcs.{AreAllArcs}
-use Rattle.call_contexts.specs.Instances.{HasLayout}
-use Rattle.call_contexts.specs.Layout.{HasGraphs, IsLaid, IsLayout}
-use Rattle.call_contexts.specs.Programs.{HasUnits, IsProgram, IsUnitOf}
+use Rattle.call_contexts.specs.Programs.{HasUnits}
 use Rattle.call_contexts.specs.Spots.{IsLaidProgram}
 use Rattle.call_contexts.specs.declared.layout.Layout.{Layout}
 use Rattle.call_contexts.proofs.HasItsArcs.{has-arcs}

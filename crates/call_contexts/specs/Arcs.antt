@@ -1,6 +1,5 @@
 -- The arcs of a laid out program.
-use Rattle.std.specs.Prelude.{◌≡◌, ℕ, ◌+◌, ◌<◌, ◌≤◌, ◌⊎◌, ◌||◌, Bool, true, false, suc, List, [], ◌∷◌, length, map, All, AllPairs, Contains, Some, slice_get, if◌then◌else◌}
-use Rattle.std.specs.List.{AllZip}
+use Rattle.std.specs.Prelude.{◌≡◌, ℕ, ◌+◌, ◌<◌, ◌≤◌, ◌⊎◌, ◌||◌, Bool, true, suc, List, [], ◌∷◌, length, map, All, AllPairs, Contains, Some, slice_get, if◌then◌else◌}
 use Rattle.flow_net.specs.declared.net.Context.{Context}
 use Rattle.flow_net.specs.declared.net.NetArc.{NetArc}
 use Rattle.net_model.specs.Places.{IsArcBefore, IsTargetBefore}

@@ -1,5 +1,5 @@
 -- Which loops lie round the units of a function, by the positions of the loops, or none.
-use Rattle.std.specs.Prelude.{◌≡◌, ℕ, ◌+◌, ◌<◌, ◌⊎◌, List, length, map, All, AllPairs, Contains, Option, Some, None, slice_get}
+use Rattle.std.specs.Prelude.{◌≡◌, ℕ, ◌<◌, ◌⊎◌, List, length, map, All, AllPairs, Contains, Option, Some, None, slice_get}
 use Rattle.elf_mips.specs.declared.image.Image.{Image}
 use Rattle.loop_nest.specs.declared.nest.Loop.{Loop}
 use Rattle.loop_nest.specs.Nests.{IsNest}

@@ -1,5 +1,5 @@
 -- How the contexts and places of a program are counted: each function's from those of the functions that it calls.
-use Rattle.std.specs.Prelude.{◌≡◌, ℕ, ◌<◌, ◌+◌, ◌^◌, ◌∷◌, List, length, map, min, replicate, sum_by, All, AllPairs, Contains, Some, slice_get, slice_index_or}
+use Rattle.std.specs.Prelude.{◌≡◌, ℕ, ◌<◌, ◌+◌, ◌^◌, ◌∷◌, List, length, map, min, replicate, sum_by, All, AllPairs, Contains, Some, slice_get}
 use Rattle.std.specs.List.{AllZip, flat_map}
 use Rattle.mips_decode.specs.Transfer.{Call}
 use Rattle.step_table.specs.Cycles.{IsCyclic}

@@ -1,5 +1,5 @@
 -- Contexts that are made breadth first, and the places of their units.
-use Rattle.std.specs.Prelude.{◌≡◌, ℕ, suc, ◌+◌, ◌<◌, ◌≤◌, List, length, map, drop, take, sum_by, All, AllPairs, Contains, Some, slice_get}
+use Rattle.std.specs.Prelude.{◌≡◌, ℕ, suc, ◌+◌, ◌<◌, ◌≤◌, List, length, drop, take, sum_by, All, AllPairs, Contains, Some, slice_get}
 use Rattle.flow_net.specs.declared.net.Context.{Context}
 use Rattle.net_model.specs.Contexts.{IsContextBefore, made_by, root}
 use Rattle.step_table.specs.Numbers.{number_of}

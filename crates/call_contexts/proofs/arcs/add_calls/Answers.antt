@@ -1,5 +1,5 @@
 -- Each called function has a place in the context that the call makes, and the place is added.
-use Rattle.std.proofs.Common.{◌≡◌, ◌<◌, ℕ, List, length, get_or, sym, ap, subst, arith}
+use Rattle.std.proofs.Common.{ℕ, List, length, get_or, sym, ap, subst, arith}
 use Rattle.std.proofs.lemmas.List.Elements.{All-get_or}
 use Rattle.call_contexts.specs.Arcs.{HasCallTo, IsCallTo}
 use Rattle.call_contexts.proofs.Appending.{added-more}

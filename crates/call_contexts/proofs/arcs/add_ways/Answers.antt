@@ -1,5 +1,5 @@
 -- Each way has a place, and the place is added.
-use Rattle.std.proofs.Common.{◌≡◌, ◌<◌, ℕ, List, length, get_or, sym, ap, subst, arith}
+use Rattle.std.proofs.Common.{ℕ, List, length, get_or, sym, ap, subst, arith}
 use Rattle.std.proofs.lemmas.List.Elements.{All-get_or}
 use Rattle.call_contexts.specs.Spots.{HasNumber, IsNumberAt}
 use Rattle.call_contexts.proofs.Appending.{added-more}

@@ -1,9 +1,9 @@
 -- Each unit adds the arcs to its targets.
-use Rattle.std.proofs.Common.{◌≡◌, ◌+◌, ◌*◌, ◌<◌, ◌≤◌, ◌++◌, ◌∷◌, [], ℕ, suc, List, length, take, get_or, slice_get, Some, sym, ap, subst, ◌∙◌, arith}
+use Rattle.std.proofs.Common.{◌≡◌, ◌+◌, ◌*◌, ◌++◌, ◌∷◌, [], ℕ, suc, List, length, take, slice_get, Some, sym, ap, subst, ◌∙◌, arith}
 use Rattle.std.specs.Prelude.{sum_by}
 use Rattle.flow_net.specs.declared.net.NetArc.{NetArc}
 use Rattle.unit_graph.specs.declared.node.Unit.{Unit as Node}
-use Rattle.call_contexts.specs.Arcs.{AreArcs, AreTargets, arc_to, arcs_from}
+use Rattle.call_contexts.specs.Arcs.{AreArcs, arc_to, arcs_from}
 use Rattle.call_contexts.proofs.ArcCounts.{AreCounted, counted-all, counted-more, counted-none, counted-room, room-full, room-more}
 use Rattle.call_contexts.proofs.SpotNumbers.{base-read, one-at, units-few}
 use Rattle.call_contexts.proofs.Laying.{unit-spot}

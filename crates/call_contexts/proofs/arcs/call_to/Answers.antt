@@ -1,5 +1,5 @@
 -- A call makes one context, and that has the place.
-use Rattle.std.proofs.Common.{ℕ, sym, subst}
+use Rattle.std.proofs.Common.{ℕ, subst}
 use Rattle.call_contexts.specs.Spots.{HasNumber}
 use Rattle.call_contexts.proofs.ContextOrder.{made-once}
 use Rattle.call_contexts.proofs.arcs.call_to.Goals as goal

@@ -1,5 +1,5 @@
 -- The ways and calls of a spot have places, and together they are its targets.
-use Rattle.std.proofs.Common.{◌≡◌, ◌++◌, ◌∷◌, [], ℕ, List, sym, ap, subst, ◌∙◌, append_assoc}
+use Rattle.std.proofs.Common.{◌≡◌, ◌++◌, ◌∷◌, [], ℕ, List, sym, ap, subst, ◌∙◌}
 use Rattle.call_contexts.specs.Arcs.{AreTargets}
 use Rattle.call_contexts.proofs.LaidProgram.{calls-there, onward-there, return-there}
 use Rattle.call_contexts.proofs.Targets.{targets-go, targets-return}

@@ -1,6 +1,6 @@
 use Rattle.std.proofs.Common.{◌++◌, List, map, take}
 use Rattle.mips_decode.specs.Transfer.{Call}
-use Rattle.call_contexts.specs.Counting.{AreCalled, calls_at}
+use Rattle.call_contexts.specs.Counting.{AreCalled}
 use Rattle.call_contexts.proofs.calls.add_calls.Given as goal
 
 abbrev pub invariant-loop-target : goal.invariant-loop-target

@@ -1,10 +1,10 @@
 -- Each turn adds the contexts that one more context makes, until all have made theirs.
-use Rattle.std.proofs.Common.{◌≡◌, ◌+◌, ◌<◌, ◌++◌, ◌∷◌, [], ℕ, List, All, length, map, slice_get, Some, subst, sym, ap, ◌∙◌, arith}
+use Rattle.std.proofs.Common.{◌≡◌, ◌+◌, ◌<◌, ◌++◌, ℕ, List, length, map, slice_get, Some, subst, sym, ap, arith}
 use Rattle.std.proofs.lemmas.List.{length-append}
 use Rattle.std.proofs.lemmas.Option.{slice_get_within}
 use Rattle.flow_net.specs.declared.net.Context.{Context}
 use Rattle.call_contexts.specs.Counting.{steps_in}
-use Rattle.call_contexts.specs.Expansion.{AreExpanded, HasCalls, RiseCalls, SumsUp, context_of}
+use Rattle.call_contexts.specs.Expansion.{AreExpanded, RiseCalls, SumsUp, context_of}
 use Rattle.call_contexts.proofs.Calling.{at_all}
 use Rattle.call_contexts.proofs.Expanding.{expanded_more, made_new}
 use Rattle.call_contexts.proofs.Summing.{none_left, one_left, sums_more}

@@ -1,5 +1,5 @@
 -- What was counted makes the contexts, and no more places than a net may have.
-use Rattle.std.proofs.Common.{◌≡◌, ◌≤◌, ℕ, List, length, sum_by, subst, sym, ap, ◌∙◌, arith}
+use Rattle.std.proofs.Common.{◌≤◌, ℕ, List, sum_by, subst, sym, arith}
 use Rattle.step_table.specs.Numbers.{number_of}
 use Rattle.call_contexts.specs.Expansion.{AreBases, AreExpanded, SumsUp}
 use Rattle.call_contexts.specs.Sizes.{most_places}

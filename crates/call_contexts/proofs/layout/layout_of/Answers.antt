@@ -1,5 +1,5 @@
 -- What was counted of the graphs is what the program has.
-use Rattle.std.proofs.Common.{◌≡◌, ℕ, List, subst, sym, ap, ◌∙◌}
+use Rattle.std.proofs.Common.{ℕ, List, subst, sym, ap, ◌∙◌}
 use Rattle.unit_graph.specs.declared.graph.Graph.{Graph}
 use Rattle.call_contexts.specs.Counted.{IsCounted, IsFit}
 use Rattle.call_contexts.specs.Layout.{HasGraphs}

@@ -1,9 +1,7 @@
 -- The layout is that of the program, and its net is nested and holds the runs.
-use Rattle.std.proofs.Common.{◌≡◌, ◌≤◌, ◌-◌, ℕ, suc, length, slice_get, Some, List, sym, ap, subst, ◌∙◌, arith, rules}
+use Rattle.std.proofs.Common.{◌≡◌, ◌-◌, ℕ, suc, length, List, sym, ap, subst, arith, rules}
 use Rattle.elf_mips.specs.declared.image.Image.{Image}
 use Rattle.flow_net.specs.declared.net.Context.{Context}
-use Rattle.net_model.specs.Net.{IsNet}
-use Rattle.call_contexts.specs.Instances.{HasLayout}
 use Rattle.call_contexts.specs.Programs.{IsProgram, TellsFault}
 use Rattle.call_contexts.specs.Sizes.{AreSizes}
 use Rattle.call_contexts.proofs.NestedNet.{net-nested}

@@ -1,6 +1,5 @@
 -- The parts are made of one layout, so that together they are its net.
-use Rattle.std.proofs.Common.{◌≡◌, ℕ, List, map, refl, sym, ap, subst, ◌∙◌}
-use Rattle.elf_mips.specs.declared.image.Image.{Image}
+use Rattle.std.proofs.Common.{List, map, refl, sym, ap, subst, ◌∙◌}
 use Rattle.flow_net.specs.declared.net.Net.{Net}
 use Rattle.flow_net.specs.declared.net.Place.{Place}
 use Rattle.net_model.specs.Accesses.{accesses_from}

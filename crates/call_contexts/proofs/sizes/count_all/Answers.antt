@@ -1,5 +1,5 @@
 -- The lists and units are those of a program's graphs.
-use Rattle.std.proofs.Common.{◌≡◌, ℕ, List, length, subst, sym, ap, ◌∙◌}
+use Rattle.std.proofs.Common.{ℕ, List, length, subst, sym, ap, ◌∙◌}
 use Rattle.std.proofs.lemmas.List.{length-map}
 use Rattle.step_table.specs.Table.{IsWithin}
 use Rattle.unit_graph.specs.declared.graph.Graph.{Graph}

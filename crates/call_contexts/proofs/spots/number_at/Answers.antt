@@ -1,9 +1,7 @@
 -- The address is among those of the context's units, and its position gives the number.
-use Rattle.std.proofs.Common.{◌≡◌, ◌+◌, ◌<◌, ◌≤◌, ℕ, List, length, sym, ap, subst, arith}
+use Rattle.std.proofs.Common.{List, length, ap, arith}
 use Rattle.std.proofs.lemmas.Option.{slice_get_within}
 use Rattle.unit_graph.specs.declared.node.Unit.{Unit as Node}
-use Rattle.call_contexts.specs.Layout.{HasGraph}
-use Rattle.call_contexts.specs.Spots.{IsNumberAt}
 use Rattle.call_contexts.proofs.SpotNumbers.{base-read, units-few}
 use Rattle.call_contexts.proofs.LaidProgram.{address-among, number-found, units-rise}
 use Rattle.call_contexts.proofs.spots.number_at.Goals as goal

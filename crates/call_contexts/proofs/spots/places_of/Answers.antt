@@ -1,5 +1,5 @@
 -- Each unit adds its place, with the scope of its number.
-use Rattle.std.proofs.Common.{◌≡◌, ◌+◌, ◌<◌, ◌++◌, ◌∷◌, [], ℕ, suc, List, length, map, take, get_or, slice_get, Some, refl, sym, ap, subst, ◌∙◌, arith}
+use Rattle.std.proofs.Common.{◌≡◌, ◌+◌, ◌++◌, ◌∷◌, [], ℕ, suc, List, length, map, take, get_or, slice_get, Some, refl, sym, ap, subst, arith}
 use Rattle.flow_net.specs.declared.net.Place.{Place}
 use Rattle.unit_graph.specs.declared.node.Unit.{Unit as Node}
 use Rattle.call_contexts.proofs.Laying.{ArePlaces, places-laid, places-more, scope-there, scopes-more, unit-spot}

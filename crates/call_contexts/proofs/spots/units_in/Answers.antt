@@ -1,6 +1,6 @@
 -- The graph of a context stands at the position that the layout gives.
-use Rattle.std.proofs.Common.{◌≡◌, ◌<◌, ℕ, List, length, get_or, ap, ◌∙◌, arith}
-use Rattle.std.proofs.lemmas.Option.{get_or_from_slice_get, slice_get_within}
+use Rattle.std.proofs.Common.{◌≡◌, List, length, get_or, ap, ◌∙◌, arith}
+use Rattle.std.proofs.lemmas.Option.{get_or_from_slice_get}
 use Rattle.unit_graph.specs.declared.graph.Graph.{Graph}
 use Rattle.call_contexts.proofs.SpotNumbers.{position-read, position-within}
 use Rattle.call_contexts.proofs.spots.units_in.Goals as goal
