@@ -1,5 +1,5 @@
 -- Runs of a program and its net: where a run stands, which runs keep the records, and paths that a run goes along.
-use Rattle.std.specs.Prelude.{◌≡◌, ℕ, ◌==◌, List, [], ◌∷◌, Option, if◌then◌else◌}
+use Rattle.std.specs.Prelude.{◌≡◌, ℕ, ◌==◌, List, [], ◌∷◌, ◌++◌, Option, if◌then◌else◌}
 use Rattle.std.specs.List.{AllZip}
 use Rattle.elf_mips.specs.declared.image.Image.{Image}
 use Rattle.elf_mips.specs.Segments.{code_at}
@@ -54,12 +54,13 @@ abbrev pub AreVisited : Net → List Stand → List ℕ → Type 0
 AreVisited net stands places = AllZip (IsPlaceFor net) stands places
 
 -- A run keeps the records of an image: each indirect transfer goes to a target recorded for it, and in the net the
--- places that the run visits keep the bound of each loop instance. (A program has one net, as far as its places and
--- its loop instances go.)
+-- places that the run visits keep the bound of each loop instance, as far as the visits have places. So a run that
+-- returns to another place than its caller's is asked for the bounds up to there: each front of its visits that all
+-- have places keeps them. (A program has one net, as far as its places and its loop instances go.)
 pub record KeepsRecords (image : Image) (entry : ℕ) (code : ℕ → Option ℕ) (s : State) (states : List State) : Type 0 where
   pub targets : KeepTargets (targets_at image) code s states
-  pub bounds : (net : Net) → IsNet image entry net → (places : List ℕ) →
-      AreVisited net (visits code [] s states) places → KeepsBounds net places
+  pub bounds : (net : Net) → IsNet image entry net → (front rest : List Stand) → visits code [] s states ≡ front ++ rest →
+      (places : List ℕ) → AreVisited net front places → KeepsBounds net places
 
 -- A run of an image's code from its entry on, with register 0 zero, whose indirect transfers go to recorded targets
 -- and which returns to its callers.

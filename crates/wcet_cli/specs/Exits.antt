@@ -1,9 +1,9 @@
--- The exit status of each answer, and its line on the standard error.
+-- What the program tells of a status: the exit status, and a line on the standard error.
 use Rattle.std.specs.Prelude.{ℕ, List, Option, None, Some, codes}
 use Rattle.wcet_engine.specs.declared.top.Status.{Status}
 use Rattle.wcet_engine.specs.declared.top.Status.TheVariants as status
 
--- 0 to 7, in the order of the answers
+-- The exit status of each status of the top call: 0 to 7, in their order.
 abbrev pub exit_number : Status → ℕ
 exit_number status.Done = 0
 exit_number status.Usage = 1
@@ -14,7 +14,7 @@ exit_number status.Memory = 5
 exit_number status.Open = 6
 exit_number status.Rejected = 7
 
--- why nothing, or not all, was answered
+-- The line on the standard error, where nothing, or not all, was answered.
 abbrev pub complaint : Status → Option (List ℕ)
 complaint status.Done = None
 complaint status.Usage = Some (codes "usage")

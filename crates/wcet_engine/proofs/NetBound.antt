@@ -1,9 +1,11 @@
--- A certificate of the program's net bounds every run that the sentence speaks of.
-use Rattle.std.proofs.Common.{◌≡◌, ℕ, ◌+◌, ◌<◌, ◌≤◌, List, [], ◌∷◌, ◌++◌, map, Option, Some, All, true, refl, ap, sym, subst, ◌∙◌, arith}
-use Rattle.std.specs.Prelude.{◌==◌}
+-- The flow program of the program's net counts every run that the sentence speaks of, so that a bound of its counts
+-- bounds the run.
+use Rattle.std.proofs.Common.{◌≡◌, ℕ, ◌+◌, ◌<◌, ◌≤◌, List, [], ◌∷◌, ◌++◌, map, Option, Some, All, true, pos, refl, ap, sym, subst, ◌∙◌, append-nil, arith}
+use Rattle.std.specs.Prelude.{◌==◌, ◌≤ℤ◌}
 use Rattle.std.specs.List.{AllZip}
 use Rattle.std.proofs.Math.Path.{fun_ext}
 use Rattle.std.proofs.lemmas.Bool.Decides.{nat_tests}
+use Rattle.std.proofs.lemmas.Int.{ints}
 use Rattle.std.proofs.lemmas.List.Sums.{sum_by-cons}
 use Rattle.cache_config.specs.Instructions.{Costs, costs_of}
 use Rattle.cache_config.specs.declared.profile.Profile.{Profile}
@@ -20,10 +22,10 @@ use Rattle.flow_net.specs.declared.net.Net.{Net}
 use Rattle.flow_net.specs.declared.net.NetArc.{NetArc}
 use Rattle.flow_net.proofs.Numbers.{item_at-all}
 use Rattle.ipet_program.specs.Costs.{content_cost, unit_cost}
-use Rattle.ipet_program.specs.Counts.{arc_cost, cycles_along, path_cost}
-use Rattle.ipet_program.specs.Programs.{place_price, price_at}
-use Rattle.ipet_program.specs.declared.certificate.Certificate.{Certificate}
-use Rattle.ipet_program.proofs.RunCounts.{run-bound}
+use Rattle.ipet_program.specs.Counts.{IsFeasible, arc_cost, counts_of, cycles_along, path_cost, value_of}
+use Rattle.ipet_program.specs.Programs.{IsProgramOf, place_price, price_at}
+use Rattle.ipet_program.specs.declared.program.Program.{Program}
+use Rattle.ipet_program.proofs.RunCounts.{AreRunCounts, run-counts}
 use Rattle.mips_decode.specs.Calls.{ReturnsToCallers, calls_after}
 use Rattle.mips_decode.specs.Records.{KeepTargets}
 use Rattle.mips_decode.specs.Run.{IsRun, last_state}
@@ -32,7 +34,7 @@ use Rattle.mips_decode.specs.Step.{value_step}
 use Rattle.mips_decode.specs.Transfer.{Call}
 use Rattle.mips_machine.specs.Image.{regions_of}
 use Rattle.mips_machine.specs.Machine.{IsMachineStart, Machine}
-use Rattle.mips_machine.specs.Run.{run_cost, step_cost, values_of}
+use Rattle.mips_machine.specs.Run.{last_machine, run_cost, step_cost, values_of}
 use Rattle.mips_machine.proofs.CodeLemmas.{code_at-regions_of, code_at-start}
 use Rattle.mips_machine.proofs.RunLemmas.{RunsAs, runs_as}
 use Rattle.net_model.specs.declared.unit.CodeUnit.{CodeUnit}
@@ -40,15 +42,16 @@ use Rattle.net_model.specs.declared.unit.Content.TheVariants.{Unit as Stands}
 use Rattle.net_model.specs.Moments.{Moment, Takes, arcs_of}
 use Rattle.net_model.specs.Net.{IsNet}
 use Rattle.net_model.specs.Places.{IsPlaceOf}
-use Rattle.net_model.specs.Runs.{AreVisited, IsKeptRun, StandsAt, stands, visits}
+use Rattle.net_model.specs.Runs.{AreVisited, IsKeptRun, KeepsRecords, StandsAt, stands, visits}
 use Rattle.net_model.specs.Targets.{targets_at, unit_at}
 use Rattle.net_model.specs.Units.{content_at}
 use Rattle.net_model.proofs.Contents.{IsFetched-unit}
 use Rattle.net_model.proofs.Followed.{unit-content}
 use Rattle.net_model.proofs.Steps.{unit-goes}
 use Rattle.net_model.proofs.Zero.{IsZero}
+use Rattle.wcet_engine.specs.Runs.{CountsRuns, IsCounted}
 use Rattle.wcet_engine.specs.Sentence.{Bounds}
-use Rattle.wcet_engine.specs.Stages.{Certifies, IsNetOf}
+use Rattle.wcet_engine.specs.Stages.{IsNetOf}
 use Rattle.wcet_engine.proofs.UnitCosts.{step_cost-unit, transfer-alone}
 
 -- The executable words of a start are the image's.
@@ -173,71 +176,94 @@ module _ (profile : Profile) (image : Image) (net : Net) (units : HasUnits image
       (ap target_of path.1.1) zip.1)
       zero run.1 targets.1 place)
 
-  -- So the cycles of a run along a path from arc 1 on are at most the bound of a certificate.
-  path-bound : (entry : ℕ) (certificate : Certificate) (s : State) (states : List State) → IsNet image entry net → Certifies image profile net certificate →
-      ((places : List ℕ) → AreVisited net (visits (image_code image.segments) [] s states) places → KeepsBounds net places) →
+  -- So the counts of a run along a path from arc 1 on are feasible, and their value is its cycles.
+  path-counted : (entry : ℕ) (program : Program) (s : State) (states : List State) → IsNet image entry net →
+      IsProgramOf net (place_price profile image net) program → KeepsRecords image entry (image_code image.segments) s states →
       (arc : NetArc) → item_at 1 net.arcs ≡ Some arc → arc.from ≡ 0 → (numbers : List ℕ) (to : ℕ) → IsPath net.arcs arc.to numbers to →
+      AllZip (StandsAt net) (stands (image_code image.segments) [] s states) (arc.to ∷ targets_along net.arcs numbers) →
       IsPriced profile image net [] s states arc.to numbers to →
-      run_cost (costs_of profile) (image_code image.segments) s states ≤ certificate.bound
-  path-bound entry certificate s states is certifies keeps arc there outside numbers to path priced =
+      IsCounted net program (image_code image.segments) s states (run_cost (costs_of profile) (image_code image.segments) s states)
+  path-counted entry program s states is of_net records arc there outside numbers to path zip priced =
+      let code = image_code image.segments in
       let price = place_price profile image net in
       let whole : List ℕ = 1 ∷ numbers in
       let moments : List Moment = map (λ (n : ℕ). Takes n) whole in
       let arcs : arcs_of moments ≡ whole = moments-arcs whole in
+      let onward : targets_along net.arcs whole ≡ arc.to ∷ targets_along net.arcs numbers =
+      ap (λ (n : ℕ). n ∷ targets_along net.arcs numbers) (ap target_of there) in
+      let run : IsRunPath net.arcs whole 0 = (refl, (arc, there, outside, subst (IsPath net.arcs arc.to numbers) priced.ended path)) in
+      let path : IsRunPath net.arcs (arcs_of moments) 0 = subst (λ (ns : List ℕ). IsRunPath net.arcs ns 0) (sym arcs) run in
+      let keeps : KeepsBounds net priced.places =
+      records.bounds net is (visits code [] s states) [] (sym (append-nil (visits code [] s states))) priced.places priced.visited in
+      let kept : KeepsBounds net (targets_along net.arcs whole) =
+      subst (KeepsBounds net) (sym (onward ∙ priced.along)) (keep-end image entry net is priced.places keeps) in
+      let counts : AreRunCounts net price program moments =
+      run-counts net price program of_net moments path (subst (λ (ns : List ℕ). KeepsBounds net (targets_along net.arcs ns)) (sym arcs) kept) in
       let at_one : arc_cost price (item_at 1 net.arcs) ≡ price arc.to = ap (arc_cost price) there in
       let sum : path_cost price net.arcs whole ≡ arc_cost price (item_at 1 net.arcs) + path_cost price net.arcs numbers =
       sum_by-cons (λ (n : ℕ). arc_cost price (item_at n net.arcs)) 1 numbers in
-      let run : IsRunPath net.arcs whole 0 = (refl, (arc, there, outside, subst (IsPath net.arcs arc.to numbers) priced.ended path)) in
-      let targets : targets_along net.arcs whole ≡ priced.places ++ 0 ∷ [] =
-      ap (λ (n : ℕ). n ∷ targets_along net.arcs numbers) (ap target_of there) ∙ priced.along in
-      let kept : KeepsBounds net (targets_along net.arcs whole) =
-      subst (KeepsBounds net) (sym targets) (keep-end image entry net is priced.places (keeps priced.places priced.visited)) in
-      let most : cycles_along price net.arcs moments ≤ certificate.bound =
-      run-bound net price certifies.program certifies.is certifies.checkable certificate certifies.valid moments
-      (subst (λ (ns : List ℕ). IsRunPath net.arcs ns 0) (sym arcs) run)
-      (subst (λ (ns : List ℕ). KeepsBounds net (targets_along net.arcs ns)) (sym arcs) kept) in
-      let cost : cycles_along price net.arcs moments ≡ path_cost price net.arcs whole = ap (path_cost price net.arcs) arcs in
-      let cycles = priced.cost in
-      omega (arith, at_one, sum, most, cost, cycles)
+      let along : cycles_along price net.arcs moments ≡ path_cost price net.arcs whole = ap (path_cost price net.arcs) arcs in
+      let cost = priced.cost in
+      let cycles : cycles_along price net.arcs moments ≡ run_cost (costs_of profile) code s states = omega (arith, at_one, sum, along, cost) in
+      record {
+        moments = moments;
+        path = path;
+        stand = subst (λ (ns : List ℕ). AllZip (StandsAt net) (stands code [] s states) (targets_along net.arcs ns)) (sym arcs)
+            (subst (AllZip (StandsAt net) (stands code [] s states)) (sym onward) zip);
+        feasible = counts.feasible;
+        value = counts.value ∙ ap (λ (n : ℕ). pos n) cycles;
+      }
 
-  run-within : (entry : ℕ) (certificate : Certificate) (s : State) (states : List State) → IsNet image entry net → Certifies image profile net certificate →
-      ((places : List ℕ) → AreVisited net (visits (image_code image.segments) [] s states) places → KeepsBounds net places) →
+  run-counted : (entry : ℕ) (program : Program) (s : State) (states : List State) → IsNet image entry net →
+      IsProgramOf net (place_price profile image net) program → KeepsRecords image entry (image_code image.segments) s states →
       IsKeptRun image entry s states → (last_state s states).pc ≡ return_address → (numbers : List ℕ) (to : ℕ) → IsRunPath net.arcs numbers to →
       AllZip (StandsAt net) (stands (image_code image.segments) [] s states) (targets_along net.arcs numbers) →
-      run_cost (costs_of profile) (image_code image.segments) s states ≤ certificate.bound
-  run-within entry certificate s states is certifies keeps kept place [] to path zip = absurd path
-  run-within entry certificate s states is certifies keeps kept place (number ∷ numbers) to path zip =
+      IsCounted net program (image_code image.segments) s states (run_cost (costs_of profile) (image_code image.segments) s states)
+  run-counted entry program s states is of_net records kept place [] to path zip = absurd path
+  run-counted entry program s states is of_net records kept place (number ∷ numbers) to path zip =
       let arc : NetArc = path.1.0 in
       let there : item_at 1 net.arcs ≡ Some arc = subst (λ (n : ℕ). item_at n net.arcs ≡ Some arc) path.0 path.1.1 in
-      path-bound entry certificate s states is certifies keeps arc there path.1.2 numbers to path.1.3
-      (priced states [] s arc.to numbers to path.1.3
-      (subst (λ (n : ℕ). AllZip (StandsAt net) (stands (image_code image.segments) [] s states) (n ∷ targets_along net.arcs numbers))
-      (ap target_of path.1.1) zip)
-      kept.zero kept.run kept.targets place)
+      let onward : AllZip (StandsAt net) (stands (image_code image.segments) [] s states) (arc.to ∷ targets_along net.arcs numbers) =
+      subst (λ (n : ℕ). AllZip (StandsAt net) (stands (image_code image.segments) [] s states) (n ∷ targets_along net.arcs numbers))
+      (ap target_of path.1.1) zip in
+      path-counted entry program s states is of_net records arc there path.1.2 numbers to path.1.3 onward
+      (priced states [] s arc.to numbers to path.1.3 onward kept.zero kept.run kept.targets place)
 
-pub Bounds-net : (image : Image) (profile : Profile) (entry : ℕ) (net : Net) (certificate : Certificate) →
-    IsNetOf image entry net → Certifies image profile net certificate → Bounds image profile entry certificate.bound
-Bounds-net image profile entry net certificate is certifies m start machines spoken =
+-- The program of the net counts each run that the sentence speaks of.
+pub counts-runs : (image : Image) (profile : Profile) (entry : ℕ) (net : Net) (program : Program) →
+    IsNetOf image entry net → IsProgramOf net (place_price profile image net) program → CountsRuns image profile entry net program
+counts-runs image profile entry net program is of_net m start machines spoken =
     let code : ℕ → Option ℕ = image_code image.segments in
     let states : List State = values_of machines in
     let same : code_at m.values.regions ≡ code = code-of_start image profile entry m image.filled start in
     let runs : RunsAs code m machines = runs_as code m machines same spoken.run in
+    let records : KeepsRecords image entry code m.values states =
+    subst (λ (words : ℕ → Option ℕ). KeepsRecords image entry words m.values states) same spoken.records in
     let kept : IsKeptRun image entry m.values states = record {
       begins = start.values.pc;
       zero = start.values.registers.zero;
       run = runs.run;
-      targets = subst (λ (words : ℕ → Option ℕ). KeepTargets (targets_at image) words m.values states) same spoken.records.targets;
+      targets = records.targets;
       callers = subst (λ (words : ℕ → Option ℕ). ReturnsToCallers words [] m.values states) same spoken.callers;
     } in
-    let keeps : (places : List ℕ) → AreVisited net (visits code [] m.values states) places → KeepsBounds net places =
-    subst (λ (words : ℕ → Option ℕ). (places : List ℕ) → AreVisited net (visits words [] m.values states) places → KeepsBounds net places)
-    same (spoken.records.bounds net is.is_net) in
     let path = is.paths m.values states kept in
-    let most : run_cost (costs_of profile) code m.values states ≤ certificate.bound =
-    run-within profile image net is.units entry certificate m.values states is.is_net certifies keeps kept spoken.returned.place
+    let counted : IsCounted net program code m.values states (run_cost (costs_of profile) code m.values states) =
+    run-counted profile image net is.units entry program m.values states is.is_net of_net records kept spoken.returned.place
     path.numbers path.to path.path path.stand in
     let costs : run_cost m.costs code m.values states ≡ run_cost (costs_of profile) code m.values states =
     ap (λ (c : Costs). run_cost c code m.values states) start.costs in
     let cycles = runs.cycles in
     let none = start.cycles in
-    omega (arith, most, costs, cycles, none)
+    let whole : run_cost (costs_of profile) code m.values states ≡ (last_machine m machines).cycles = omega (arith, costs, cycles, none) in
+    subst (λ (words : ℕ → Option ℕ). IsCounted net program words m.values states (last_machine m machines).cycles) (sym same)
+    (subst (IsCounted net program code m.values states) whole counted)
+
+-- So its cycles are at most what no feasible counts exceed.
+pub counted-bounds : (image : Image) (profile : Profile) (entry : ℕ) (net : Net) (program : Program) (bound : ℕ) →
+    CountsRuns image profile entry net program →
+    ((counts : ℕ → ℕ) → IsFeasible program counts → value_of program counts ≤ℤ pos bound) → Bounds image profile entry bound
+counted-bounds image profile entry net program bound counted greatest m start machines spoken =
+    let run = counted m start machines spoken in
+    let value = run.value in
+    let most = greatest (counts_of run.moments) run.feasible in
+    omega (arith, ints)

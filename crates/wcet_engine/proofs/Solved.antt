@@ -18,6 +18,7 @@ use Rattle.flow_net.specs.declared.net.Net.{Net}
 use Rattle.ipet_program.proofs.Caps.{feasible-crude}
 use Rattle.ipet_program.proofs.LeafLaw.{leaf-bound}
 use Rattle.nest_solver.specs.Answers.{AreGreatest, ShowsGreatest}
+use Rattle.wcet_engine.specs.Certificates.{IsOneLeaf}
 
 -- The greatest value is the leaf's bound.
 value-bound : (program : Program) (leaf : Leaf) (counts : List Count) → IsCheckable program → (shows : ShowsGreatest program leaf) →
@@ -41,6 +42,9 @@ solved program leaf counts bound certificate checkable shows are same bounded re
   tree = subst (λ (nodes : List Node). AreValid program certificate.bound ([] ∷ []) nodes) (sym tree)
       (subst (λ (b : ℕ). IsLeaf program [] b leaf) (sym (bounded ∙ same)) shows.valid, tt);
 }
+
+pub one-leaf : (program : Program) (leaf : Leaf) (tree : List Node) → ShowsGreatest program leaf → tree ≡ End leaf ∷ [] → IsOneLeaf tree
+one-leaf program leaf tree shows same = record { leaf = leaf; alone = same; bounds = shows.some; whole = shows.whole }
 
 -- The greatest value is at most the crude bound, and so keeps its limit.
 pub bound-low : (net : Net) (price : ℕ → ℕ) (program : Program) (leaf : Leaf) → IsNested net → IsProgramOf net price program →

@@ -15,7 +15,7 @@ use Rattle.wcet_engine.specs.Refusals.{rank}
 use Rattle.wcet_engine.specs.Stages.{Certifies, IsNetOf}
 use Rattle.wcet_engine.proofs.CodeKinds.{code-faultless}
 use Rattle.wcet_engine.proofs.ProgramFaultLemmas.{free-whole, none-in}
-use Rattle.wcet_engine.proofs.NetBound.{Bounds-net}
+use Rattle.wcet_engine.proofs.NetBound.{counted-bounds, counts-runs}
 
 -- The sizes that are told are above the limits.
 pub too-many : (image : Image) (entry contexts places : ℕ) → HasTooMany image entry contexts places → IsTooMany image entry
@@ -55,18 +55,24 @@ fitting image profile entry net certificate is certifies large =
 pub is-analysed : (image : Image) (profile : Profile) (entry : ℕ) (graphs : Graphs) (nests : Nests) (net : Net) (certificate : Certificate) →
     IsProgram image entry graphs nests → IsNetOf image entry net → Certifies image profile net certificate →
     IsAnalysisOf image profile entry (record { certificate = certificate })
-is-analysed image profile entry graphs nests net certificate program is certifies = record {
-  faultless = λ kind place.
-      none-in image profile entry (rank kind + 1)
-      (free-whole image profile entry (code-faultless image entry graphs nests program) (can-return image entry net is)
-      (not-many image entry graphs nests net program is) (fitting image profile entry net certificate is certifies) (rank kind + 1))
-      kind place (omega arith);
-  net = net;
-  is_net = is.is_net;
-  program = certifies.program;
-  is_program = certifies.is;
-  valid = certifies.valid;
-  reached = certifies.reached;
-  greatest = certificate-bound certifies.program certificate certifies.checkable certifies.valid;
-  bounds = Bounds-net image profile entry net certificate is certifies;
-}
+is-analysed image profile entry graphs nests net certificate program is certifies =
+    let greatest = certificate-bound certifies.program certificate certifies.checkable certifies.valid in
+    let counted = counts-runs image profile entry net certifies.program is certifies.is in
+    record {
+      faultless = λ kind place.
+          none-in image profile entry (rank kind + 1)
+          (free-whole image profile entry (code-faultless image entry graphs nests program) (can-return image entry net is)
+          (not-many image entry graphs nests net program is) (fitting image profile entry net certificate is certifies) (rank kind + 1))
+          kind place (omega arith);
+      net = net;
+      is_net = is.is_net;
+      paths = is.paths;
+      program = certifies.program;
+      is_program = certifies.is;
+      valid = certifies.valid;
+      reached = certifies.reached;
+      tree = certifies.tree;
+      greatest = greatest;
+      counted = counted;
+      bounds = counted-bounds image profile entry net certifies.program certificate.bound counted greatest;
+    }

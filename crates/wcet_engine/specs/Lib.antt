@@ -1,4 +1,5 @@
 pub mod Answers
+pub mod Certificates
 pub mod Clash
 pub mod Stages
 pub mod Faults
@@ -7,6 +8,7 @@ pub mod Given
 pub mod Outcomes
 pub mod ProgramFaults
 pub mod Refusals
+pub mod Runs
 pub mod Sentence
 pub mod Texts
 pub mod Words

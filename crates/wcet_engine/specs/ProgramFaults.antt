@@ -23,7 +23,9 @@ use Rattle.wcet_engine.specs.declared.analysis.Refused.{Refused}
 use Rattle.wcet_engine.specs.declared.analysis.Refused.TheVariants.{Fault, Memory}
 use Rattle.wcet_engine.specs.declared.refusal.RefusalKind.{RefusalKind}
 use Rattle.wcet_engine.specs.declared.refusal.RefusalKind.TheVariants.{WritableCode, UnknownWord, TransferInSlot, UnknownTarget, LinkRegister, Recursion, Irreducible, NoBound, NeverReturns, TooManyUnits, BoundTooLarge}
+use Rattle.wcet_engine.specs.Certificates.{IsOneLeaf}
 use Rattle.wcet_engine.specs.Refusals.{at_number, kind_of_code, rank, says_at}
+use Rattle.wcet_engine.specs.Runs.{CountsRuns, HasPaths}
 use Rattle.wcet_engine.specs.Sentence.{Bounds}
 
 -- The program's code has a fault of the kind at the place: a reached address holds it, a function calls itself, a unit
@@ -77,18 +79,26 @@ abbrev pub TellsFaultIn : Image → Profile → ℕ → Refused → Type 0
 TellsFaultIn image profile entry (Fault refusal) = says_at (IsFirstFaultIn image profile entry refusal.kind) refusal.spot
 TellsFaultIn image profile entry Memory = Unit {0}
 
--- What an analysis says of a program without a fault: its net, the net's integer program under the
--- profile, and that the certificate is valid for this program: no counts that the program allows have a value above its
--- bound, and its own counts have this value. No run that the sentence speaks of takes more cycles.
+-- What an analysis says of a program without a fault.
 pub record IsAnalysisOf (image : Image) (profile : Profile) (entry : ℕ) (analysis : Analysis) : Type 0 where
   pub faultless : (kind : RefusalKind) (place : ℕ) → OffendsIn image profile entry kind place → ⊥
+  -- Its net, along which its runs go.
   pub net : Net
   pub is_net : IsNet image entry net
+  pub paths : HasPaths image entry net
+  -- The net's integer program under the profile.
   pub program : Program
   pub is_program : IsProgramOf net (place_price profile image net) program
+  -- The certificate is valid for this program: its counts are feasible, and their value is its bound. Its tree is one
+  -- leaf, which shows the bound.
   pub valid : IsValid program analysis.certificate
   pub reached : analysis.certificate.reached ≡ analysis.certificate.bound
+  pub tree : IsOneLeaf analysis.certificate.tree
+  -- No counts that the program allows have a value above the bound.
   pub greatest : (counts : ℕ → ℕ) → IsFeasible program counts → value_of program counts ≤ℤ pos analysis.certificate.bound
+  -- The program allows the counts of each run that the sentence speaks of, and their value is the run's cycles. So no
+  -- such run takes more cycles than the bound.
+  pub counted : CountsRuns image profile entry net program
   pub bounds : Bounds image profile entry analysis.certificate.bound
 
 -- The error for a fault of the code.

@@ -9,7 +9,8 @@ use Rattle.mips_machine.specs.Machine.{Machine, IsMachineStart}
 use Rattle.mips_machine.specs.Run.{IsMachineRun, last_machine, values_of}
 use Rattle.net_model.specs.Runs.{KeepsRecords}
 
--- What the sentence asks of a run: it joins, keeps the records, returns to its callers, and its entry returned.
+-- What the sentence asks of a list of machines: it is a run of the machine, keeps the records, returns to its callers,
+-- and its entry has returned.
 pub record IsSpokenOf (image : Image) (entry : ℕ) (m : Machine) (machines : List Machine) : Type 0 where
   pub run : IsMachineRun m machines
   pub records : KeepsRecords image entry (code_at m.values.regions) m.values (values_of machines)

@@ -3,7 +3,6 @@ use Rattle.std.specs.Prelude.{◌≡◌, ℕ, ◌<◌, ◌≤◌, ◌⊎◌, Lis
 use Rattle.cache_config.specs.declared.profile.Profile.{Profile}
 use Rattle.call_contexts.specs.Programs.{HasNoReturn, HasUnits}
 use Rattle.call_contexts.specs.Sizes.{AreSizes, most_contexts, most_places}
-use Rattle.elf_mips.specs.Segments.{code_at}
 use Rattle.elf_mips.specs.declared.image.Image.{Image}
 use Rattle.flow_net.specs.Nested.{IsNested}
 use Rattle.flow_net.specs.declared.net.Net.{Net}
@@ -11,20 +10,20 @@ use Rattle.ipet_program.specs.Certificates.{IsValid}
 use Rattle.ipet_program.specs.Programs.{IsCheckable, IsProgramOf, place_price}
 use Rattle.ipet_program.specs.declared.certificate.Certificate.{Certificate}
 use Rattle.ipet_program.specs.declared.program.Program.{Program}
-use Rattle.mips_decode.specs.State.{State}
 use Rattle.nest_solver.specs.Tables.{IsFew}
 use Rattle.net_model.specs.declared.unit.CodeKind.{CodeKind}
 use Rattle.net_model.specs.Faults.{rank as code_rank}
 use Rattle.net_model.specs.Functions.{CanReturn}
 use Rattle.net_model.specs.Net.{IsNet}
-use Rattle.net_model.specs.Runs.{GoesAlong, IsKeptRun}
 use Rattle.wcet_engine.specs.declared.analysis.Refused.{Refused}
 use Rattle.wcet_engine.specs.declared.analysis.Refused.TheVariants.{Fault, Memory}
 use Rattle.wcet_engine.specs.declared.refusal.Refusal.{Refusal}
 use Rattle.wcet_engine.specs.declared.refusal.RefusalKind.{RefusalKind}
 use Rattle.wcet_engine.specs.declared.refusal.RefusalKind.TheVariants.{NeverReturns, TooManyUnits, BoundTooLarge}
+use Rattle.wcet_engine.specs.Certificates.{IsOneLeaf}
 use Rattle.wcet_engine.specs.ProgramFaults.{IsCodeFault, IsTooLarge, IsTooMany}
 use Rattle.wcet_engine.specs.Refusals.{at_number, kind_of_code, says_at}
+use Rattle.wcet_engine.specs.Runs.{HasPaths}
 
 -- The first fault of the code and its loops.
 pub record IsCodeRefusal (image : Image) (entry : ℕ) (kind : RefusalKind) (place : ℕ) : Type 0 where
@@ -50,7 +49,7 @@ TellsNoNet image entry (Fault refusal) = IsNetRefusal image entry refusal
 TellsNoNet image entry Memory = Unit {0}
 
 -- The net of a program whose entry function can return, within the limits: a unit stands at each of its places, and
--- each run that keeps the records goes along a path of it.
+-- each run whose indirect transfers go to recorded targets and which returns to its callers goes along a path of it.
 pub record IsNetOf (image : Image) (entry : ℕ) (net : Net) : Type 0 where
   pub is_net : IsNet image entry net
   pub nested : IsNested net
@@ -60,16 +59,16 @@ pub record IsNetOf (image : Image) (entry : ℕ) (net : Net) : Type 0 where
   pub places : length net.places ≤ most_places
   pub sizes : AreSizes image entry (length net.contexts) (length net.places)
   pub can_return : CanReturn image entry
-  pub paths : (s : State) (states : List State) → IsKeptRun image entry s states →
-      GoesAlong net (code_at image.segments) s states
+  pub paths : HasPaths image entry net
 
--- A certificate of the program of a net, which shows the bound that its counts reach.
+-- A certificate of the program of a net, which shows by one leaf the bound that its counts reach.
 pub record Certifies (image : Image) (profile : Profile) (net : Net) (certificate : Certificate) : Type 0 where
   pub program : Program
   pub is : IsProgramOf net (place_price profile image net) program
   pub checkable : IsCheckable program
   pub valid : IsValid program certificate
   pub reached : certificate.reached ≡ certificate.bound
+  pub tree : IsOneLeaf certificate.tree
 
 -- The crude bound of the program's net is too large.
 abbrev pub TellsTooLarge : Image → Profile → ℕ → Refused → Type 0

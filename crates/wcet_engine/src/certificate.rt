@@ -1,6 +1,6 @@
 //! The certificate of a net.
 
-ghost use Rattle.std.specs.Prelude.{◌≡◌, ◌≤◌, ℕ, IfErr, IfOk};
+ghost use Rattle.std.specs.Prelude.{◌≡◌, ◌≤◌, IfErr, IfOk};
 ghost use Rattle.flow_net.specs.Nested.{IsNested};
 ghost use Rattle.ipet_program.specs.Certificates.{IsValid};
 ghost use Rattle.ipet_program.specs.Programs.{HasRows, IsCheckable, crude_limit};
@@ -8,6 +8,7 @@ ghost use Rattle.ipet_program.specs.declared.program.Program.{Program};
 ghost use Rattle.nest_solver.specs.Answers.{ShowsGreatest};
 ghost use Rattle.nest_solver.specs.Nets.{IsProgramOfNet};
 ghost use Rattle.nest_solver.specs.Tables.{IsFew};
+ghost use Rattle.wcet_engine.specs.Certificates.{IsOneLeaf};
 ghost use Rattle.wcet_engine.specs.Stages.{Certifies, IsNetOf, TellsTooLarge};
 
 use crate::analysis::Refused;
@@ -40,6 +41,7 @@ fn certificate_of(alloc: Global, program: &Program, net: &Net) -> Result<Certifi
     requires checkable { IsCheckable program.now }
     ensures valid { IfOk result (IsValid program.now) }
     ensures reached { IfOk result (λ certificate. certificate.reached ≡ certificate.bound) }
+    ensures tree { IfOk result (λ certificate. IsOneLeaf certificate.tree) }
 {
     let leaf = nest_bound(alloc, program, net)?;
     let counts = nest_counts(alloc, program, net)?;

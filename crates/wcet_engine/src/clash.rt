@@ -1,6 +1,6 @@
 //! The least address that a loaded segment shares with the memory that a profile gives.
 
-ghost use Rattle.std.specs.Prelude.{◌≡◌, ◌+◌, ◌≤◌, length};
+ghost use Rattle.std.specs.Prelude.{◌≡◌, ◌+◌, length};
 ghost use Rattle.mips_machine.specs.Image.{region_of, zeros_at};
 ghost use Rattle.wcet_engine.specs.Clash.{FindsLeast, IsClash, IsShared, IsSharedBy, given_regions, lesser_of};
 

@@ -25,6 +25,5 @@ mod top;
 mod words;
 
 pub use analysis::{Analysis, Refused, analyse_bytes};
-pub use program::analyse_program;
 pub use refusal::{Refusal, RefusalKind, Spot};
 pub use top::{Status, wcet_main};

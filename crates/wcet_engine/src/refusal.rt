@@ -50,7 +50,7 @@ pub enum RefusalKind {
     LinkRegister,
     /// A function calls itself, directly or through others. The place is its entry.
     Recursion,
-    /// A unit lies on a cycle without back arcs. The place is its address.
+    /// A unit lies on a cycle that has no back arc. The place is its address.
     Irreducible,
     /// A loop has no recorded bound. The place is its header's address.
     NoBound,

@@ -1,10 +1,7 @@
 //! The top call: from command words, files and a sink to a status.
 
-ghost use Rattle.std.specs.Prelude.{◌≡◌, ◌↔◌, ◌≤◌, ℕ, List, None, IfSome, IfOk, IfErr, OnOk, OnErr};
-ghost use Rattle.std.specs.Io.KnownBytes.{Appends};
-ghost use Rattle.wcet_io.specs.Causes.{HasCause, Rose};
-ghost use Rattle.wcet_io.specs.Fronts.{AppendsFront};
-ghost use Rattle.wcet_engine.specs.Texts.{text_of};
+ghost use Rattle.std.specs.Prelude.{◌≡◌, ◌↔◌, ◌≤◌, ℕ, List, None, IfSome};
+ghost use Rattle.wcet_io.specs.Causes.{Rose};
 ghost use Rattle.wcet_engine.specs.Given.{read_by};
 ghost use Rattle.wcet_engine.specs.Words.{form_of, words_of};
 

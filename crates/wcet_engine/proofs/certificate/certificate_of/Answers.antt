@@ -2,7 +2,7 @@
 use Rattle.std.proofs.Common.{refl, ap, ◌∙◌, List, ◌∷◌, ◌++◌, []}
 use Rattle.ipet_program.specs.declared.certificate.Node.{Node}
 use Rattle.ipet_program.specs.declared.certificate.Node.TheVariants.{End}
-use Rattle.wcet_engine.proofs.Solved.{bound-low, solved}
+use Rattle.wcet_engine.proofs.Solved.{bound-low, one-leaf, solved}
 use Rattle.wcet_engine.proofs.certificate.certificate_of.Goals as goal
 
 pub bound_of-bound-requires : goal.bound_of-bound-requires
@@ -16,4 +16,9 @@ pub returns-clause-valid : goal.returns-clause-valid
 returns-clause-valid c =
     solved c.args.program.now c.in_ok-leaf.leaf c.in_ok-counts.counts c.bound_of-bound.result _ c.requires.checkable c.in_ok-leaf.ensures.shows
     c.in_ok-counts.ensures.greatest (c.bound_of-bound.ensures c.args.program.now c.in_ok-leaf.ensures.shows) refl refl refl
+    (c.in_ok-push.ensures.ok ∙ ap (λ (nodes : List Node). nodes ++ End c.in_ok-leaf.leaf ∷ []) c.new-tree.ensures)
+
+pub returns-clause-tree : goal.returns-clause-tree
+returns-clause-tree c =
+    one-leaf c.args.program.now c.in_ok-leaf.leaf _ c.in_ok-leaf.ensures.shows
     (c.in_ok-push.ensures.ok ∙ ap (λ (nodes : List Node). nodes ++ End c.in_ok-leaf.leaf ∷ []) c.new-tree.ensures)
