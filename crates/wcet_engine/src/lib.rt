@@ -3,21 +3,11 @@
 
 mod analysis;
 mod answer;
-#[cfg(test)]
-mod call_tests;
 mod certificate;
 mod clash;
-#[cfg(test)]
-mod code_tests;
 mod contents;
-#[cfg(test)]
-mod loop_tests;
-#[cfg(test)]
-mod profile_tests;
 mod program;
 mod refusal;
-#[cfg(test)]
-mod section_tests;
 #[cfg(test)]
 mod tests;
 mod text;

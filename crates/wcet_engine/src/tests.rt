@@ -1,4 +1,15 @@
-//! The top call on files in memory: printed lines, statuses, and what a failing shelf or sink leaves.
+//! The top call on files in memory: how the trials make files, and what they look at.
+
+mod calls;
+mod code;
+mod contexts;
+mod files;
+mod lines;
+mod loops;
+mod memory;
+mod profiles;
+mod sections;
+mod targets;
 
 ghost use Rattle.std.specs.Prelude.{◌≤◌, length};
 
@@ -8,101 +19,36 @@ use std::test::Fail;
 use wcet_io::{MemShelf, MemSink};
 
 /// Where the one segment begins, and its entry.
-const ENTRY: u32 = 0x0040_0000;
+const START: u32 = 0x0040_0000;
 
-/// An executable of one segment of flags 5 that holds these words, entered at its first one.
-pub fn file_of(alloc: Global, words: &[u32]) -> Result<Vec<u8>, AllocError>
-    requires { length words.now ≤ 64 }
-{
-    let size = (4 * words.len()) as u32;
-    let headers = [
-        // The ELF header: its magic number, type 2, machine 8, version 1, the entry, and one program
-        // header at offset 52.
-        0x7F45_4C46,
-        0x0102_0100,
-        0,
-        0,
-        0x0002_0008,
-        1,
-        ENTRY,
-        52,
-        0,
-        0,
-        0x0034_0020,
-        0x0001_0028,
-        0,
-        // The program header: type 1, the words at offset 84, both sizes, flags 5.
-        1,
-        84,
-        ENTRY,
-        ENTRY,
-        size,
-        size,
-        5,
-        4,
-    ];
-    let mut bytes = Vec::new(alloc);
-    for header in headers {
-        bytes.extend_from_slice(&u32::to_be_bytes(header))?;
-    }
+/// jr $31
+const RETURN: u32 = 0x03E0_0008;
+
+/// addu $17, $31, $0, which keeps the return address over a call.
+const KEEP: u32 = 0x03E0_8821;
+
+/// addu $31, $17, $0
+const BACK: u32 = 0x0220_F821;
+
+/// addiu $8, $8, -1
+const COUNT: u32 = 0x2508_FFFF;
+
+/// bne $8, $0, two words back
+const REPEAT: u32 = 0x1500_FFFE;
+
+/// A start, a loop of two units at 00400004 and 00400008, and the return.
+const COUNTED: [u32; 6] = [0x2408_0005, COUNT, REPEAT, 0, RETURN, 0];
+
+/// Adds words, the highest byte first.
+fn put_words(file: &mut Vec<u8>, words: &[u32]) -> Result<(), AllocError> {
     for word in words {
-        bytes.extend_from_slice(&word.to_be_bytes())?;
+        file.extend_from_slice(&word.to_be_bytes())?;
     }
-    Ok(bytes)
-}
-
-/// The words as texts.
-pub fn texts(alloc: Global, words: &[&str]) -> Result<Vec<String>, Fail> {
-    let mut owned = Vec::new(alloc);
-    for word in words {
-        owned.push(String::from_str(alloc, word)?)?;
-    }
-    Ok(owned)
-}
-
-/// The status of the words on the one file `f`, and the bytes that the sink took.
-fn answer(
-    alloc: Global,
-    words: &[&str],
-    bytes: &[u8],
-    shelf_fails: &[u64],
-    sink_step: usize,
-    sink_fails: &[u64],
-) -> Result<(Status, Vec<u8>), Fail>
-    requires { 1 ≤ sink_step }
-{
-    let words = texts(alloc, words)?;
-    let mut files = MemShelf::new(alloc, 64, shelf_fails.to_vec(alloc)?);
-    files.add("f", bytes)?;
-    let mut out = MemSink::new(alloc, sink_step, 8192, sink_fails.to_vec(alloc)?)?;
-    let status = wcet_main(alloc, &words, &mut files, &mut out);
-    Ok((status, out.taken().to_vec(alloc)?))
-}
-
-/// The status of the words on an ELF file `f` and a profile `c`, and the bytes that the sink took.
-pub fn answer_by(
-    alloc: Global,
-    words: &[&str],
-    bytes: &[u8],
-    profile: &[u8],
-    shelf_fails: &[u64],
-) -> Result<(Status, Vec<u8>), Fail> {
-    let words = texts(alloc, words)?;
-    let mut files = MemShelf::new(alloc, 65_536, shelf_fails.to_vec(alloc)?);
-    files.add("f", bytes)?;
-    files.add("c", profile)?;
-    let mut out = MemSink::new(alloc, 4096, 8192, Vec::new(alloc))?;
-    let status = wcet_main(alloc, &words, &mut files, &mut out);
-    Ok((status, out.taken().to_vec(alloc)?))
-}
-
-/// What `analyse` prints for a file, with its status.
-pub fn analysed(alloc: Global, bytes: &[u8]) -> Result<(Status, Vec<u8>), Fail> {
-    answer(alloc, &["analyse", "f"], bytes, &[], 16, &[])
+    Ok(())
 }
 
 /// Puts bytes over those from a place on, as far as they reach.
-pub fn put(file: &mut [u8], place: usize, bytes: &[u8]) {
+fn change(file: &mut [u8], place: usize, bytes: &[u8]) {
     if place > file.len() {
         return;
     }
@@ -111,84 +57,134 @@ pub fn put(file: &mut [u8], place: usize, bytes: &[u8]) {
     }
 }
 
-#[test]
-fn prints_the_first_fault(rt: HostRuntime) -> Result<(), Fail> {
-    let alloc = rt.alloc();
-    let file = file_of(alloc, &[0x03E0_0008, 0])?;
-    assert_eq!(rt; file.len(), 92);
-    // The same file with some bytes changed: from where on, to what, and the line.
-    let rows: [(usize, &[u8], &str); 10] = [
-        (0, &[0], "refused not-elf 00000000\n"),
-        (5, &[1], "refused not-this-kind 00000005\n"),
-        (0x23, &[1], "refused bad-table 00000030\n"),
-        (0x2B, &[31], "refused bad-table 0000002A\n"),
-        (0x2C, &[0xFF, 0xFF], "refused bad-table 0000001C\n"),
-        (0x30, &[1], "refused bad-table 00000020\n"),
-        (
-            0x38,
-            &[0xFF, 0xFF, 0xFF, 0xFF],
-            "refused bad-segment 00000034\n",
-        ),
-        (
-            0x3C,
-            &[0xFF, 0xFF, 0xFF, 0xF0],
-            "refused bad-segment 00000034\n",
-        ),
-        (0x47, &[9], "refused bad-segment 00000034\n"),
-        (0x4B, &[0], "refused unknown-word 00400000\n"),
-    ];
-    for (place, bytes, line) in rows {
-        let mut changed = file.as_slice().to_vec(alloc)?;
-        put(&mut changed, place, bytes);
-        let got = analysed(alloc, &changed)?;
-        assert_eq!(rt; got.0, Status::Refused);
-        assert_eq!(rt; got.1.as_slice(), line.as_bytes());
+/// An ELF header and a program header: a segment of flags 5 and this size, loaded from offset 84 on and entered
+/// at its begin. The section headers stand at an offset; the last half words say how many there are, and which
+/// has the names.
+fn headers(size: u32, sections: u32, counts: u32) -> [u32; 21] {
+    [
+        // The magic number, type 2, machine 8, version 1, the entry, and one program header at offset 52.
+        0x7F45_4C46,
+        0x0102_0100,
+        0,
+        0,
+        0x0002_0008,
+        1,
+        START,
+        52,
+        sections,
+        0,
+        0x0034_0020,
+        0x0001_0028,
+        counts,
+        // The program header.
+        1,
+        84,
+        START,
+        START,
+        size,
+        size,
+        5,
+        4,
+    ]
+}
+
+/// An executable that holds these words, and no sections.
+fn file_of(alloc: Global, words: &[u32]) -> Result<Vec<u8>, AllocError>
+    requires { length words.now ≤ 128 }
+{
+    let mut file = Vec::new(alloc);
+    put_words(&mut file, &headers(4 * words.len() as u32, 0, 0))?;
+    put_words(&mut file, words)?;
+    Ok(file)
+}
+
+/// An executable that holds these words, and these records in a section `.wcet`.
+fn file_with(alloc: Global, words: &[u32], records: &[[u32; 4]]) -> Result<Vec<u8>, AllocError>
+    requires words { length words.now ≤ 128 }
+    requires records { length records.now ≤ 64 }
+{
+    let size = 4 * words.len() as u32;
+    let begin = 84 + size;
+    let marks = 16 * records.len() as u32;
+    let names = begin + marks;
+    let mut file = Vec::new(alloc);
+    put_words(&mut file, &headers(size, names + 17, 0x0003_0002))?;
+    put_words(&mut file, words)?;
+    for record in records {
+        put_words(&mut file, record)?;
     }
-    // A section header without names: it is no section that is read.
-    let mut nameless = file.as_slice().to_vec(alloc)?;
-    put(&mut nameless, 0x31, &[1]);
-    let got = analysed(alloc, &nameless)?;
-    assert_eq!(rt; got.0, Status::Done);
-    assert!(rt; got.1.as_slice().starts_with(b"bound 22\n".as_slice()));
-    let empty = analysed(alloc, &[])?;
-    assert_eq!(rt; empty.0, Status::Refused);
-    assert_eq!(rt; empty.1.as_slice(), b"refused short 00000000\n".as_slice());
-    let zeros = analysed(alloc, &[0; 52])?;
-    assert_eq!(rt;
-        zeros.1.as_slice(),
-        b"refused not-elf 00000000\n".as_slice()
-    );
-    Ok(())
+    file.extend_from_slice(b"\0.wcet\0.shstrtab\0".as_slice())?;
+    put_words(&mut file, &[0; 10])?;
+    put_words(&mut file, &[1, 1, 0, 0, begin, marks, 0, 0, 0, 0])?;
+    put_words(&mut file, &[7, 3, 0, 0, names, 17, 0, 0, 0, 0])?;
+    Ok(file)
 }
 
-#[test]
-fn prints_a_certificate(rt: HostRuntime) -> Result<(), Fail> {
-    let alloc = rt.alloc();
-    let file = file_of(alloc, &[0x03E0_0008, 0])?;
-    let got = analysed(alloc, &file)?;
-    assert_eq!(rt; got.0, Status::Done);
-    // Row 1 is arc 1 = 1, row 2 is arc 1 - arc 2 = 0: only this leaf shows the bound with denominator 1.
-    assert_eq!(rt;
-        got.1.as_slice(),
-        b"bound 22\nreached 22\nvalue 1 1\nvalue 2 1\nleaf 1 1:22\nend\n".as_slice()
-    );
-    Ok(())
+/// The words as texts.
+fn texts(alloc: Global, words: &[&str]) -> Result<Vec<String>, Fail> {
+    let mut owned = Vec::new(alloc);
+    for word in words {
+        owned.push(String::from_str(alloc, word)?)?;
+    }
+    Ok(owned)
 }
 
-#[test]
-fn fails_only_with_the_outside(rt: HostRuntime) -> Result<(), Fail> {
-    let alloc = rt.alloc();
-    let file = file_of(alloc, &[0x03E0_0008, 0])?;
-    let no_words = answer(alloc, &[], &file, &[], 16, &[])?;
-    assert_eq!(rt; (no_words.0, no_words.1.len()), (Status::Usage, 0));
-    let no_file = answer(alloc, &["analyse"], &file, &[], 16, &[])?;
-    assert_eq!(rt; (no_file.0, no_file.1.len()), (Status::Usage, 0));
-    let missing = answer(alloc, &["analyse", "g"], &file, &[], 16, &[])?;
-    assert_eq!(rt; (missing.0, missing.1.len()), (Status::ReadFault, 0));
-    let torn = answer(alloc, &["analyse", "f"], &file, &[2], 16, &[])?;
-    assert_eq!(rt; (torn.0, torn.1.len()), (Status::ReadFault, 0));
-    let full = answer(alloc, &["analyse", "f"], &file, &[], 4, &[2])?;
-    assert_eq!(rt; full.0, Status::WriteFault);
-    assert_eq!(rt; full.1.as_slice(), b"boun".as_slice());
-    Ok(())
+/// The status of a call, and the bytes that its sink took.
+#[derive(Drop)]
+struct Output {
+    status: Status,
+    text: Vec<u8>,
+}
+
+impl Output {
+    /// The call is done, and its text begins so.
+    fn begins(&self, front: &str) -> bool {
+        self.status == Status::Done && self.text.as_slice().starts_with(front.as_bytes())
+    }
+
+    /// The files are refused by this line.
+    fn refuses(&self, line: &str) -> bool {
+        self.status == Status::Refused && self.text.as_slice() == line.as_bytes()
+    }
+
+    /// The call ended by this status with nothing written.
+    fn ends(&self, status: Status) -> bool {
+        self.status == status && self.text.len() == 0
+    }
+}
+
+/// What the words give on an ELF file `f` and a profile `c`. The readings of these numbers fail.
+fn answer(
+    alloc: Global,
+    words: &[&str],
+    elf: &[u8],
+    profile: &[u8],
+    fails: &[u64],
+) -> Result<Output, Fail> {
+    let words = texts(alloc, words)?;
+    let mut files = MemShelf::new(alloc, 65_536, fails.to_vec(alloc)?);
+    files.add("f", elf)?;
+    files.add("c", profile)?;
+    let mut out = MemSink::new(alloc, 4096, 4_194_304, Vec::new(alloc))?;
+    let status = wcet_main(alloc, &words, &mut files, &mut out);
+    Ok(Output {
+        status,
+        text: out.taken().to_vec(alloc)?,
+    })
+}
+
+/// What `analyse` prints for a file.
+fn analysed(alloc: Global, elf: &[u8]) -> Result<Output, Fail> {
+    answer(alloc, &["analyse", "f"], elf, &[], &[])
+}
+
+/// What `analyse` prints for a program of these words and records.
+fn printed(alloc: Global, words: &[u32], records: &[[u32; 4]]) -> Result<Output, Fail> {
+    if words.len() > 128 || records.len() > 64 {
+        return Ok(Output {
+            status: Status::Usage,
+            text: Vec::new(alloc),
+        });
+    }
+    analysed(alloc, &file_with(alloc, words, records)?)
 }

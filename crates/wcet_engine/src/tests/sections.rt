@@ -1,16 +1,13 @@
-//! The top call on a file with sections: a counted loop of bound 5 with its record, whole, changed and cut.
+//! A file with sections, changed and cut: a counted loop of bound 5 with its record.
 
-use crate::loop_tests::file_with;
-use crate::tests::{analysed, file_of, put};
-use crate::top::Status;
+use super::{COUNTED, RETURN, analysed, change, file_of, file_with};
 use std::alloc::{AllocError, Global};
 use std::test::Fail;
 
 /// The file: headers, six words from offset 54, the record at 6C, the names at 7C, and three
 /// section headers at 8D, B5 and DD. (All offsets in hexadecimal.)
 fn loop_file(alloc: Global) -> Result<Vec<u8>, AllocError> {
-    let words = [0x2408_0005, 0x2508_FFFF, 0x1500_FFFE, 0, 0x03E0_0008, 0];
-    file_with(alloc, &words, &[[1, 0x0040_0004, 5, 0]])
+    file_with(alloc, &COUNTED, &[[1, 0x0040_0004, 5, 0]])
 }
 
 #[test]
@@ -35,10 +32,8 @@ fn refuses_changed_sections(rt: HostRuntime) -> Result<(), Fail> {
     ];
     for (place, bytes, line) in rows {
         let mut changed = file.as_slice().to_vec(alloc)?;
-        put(&mut changed, place, bytes);
-        let got = analysed(alloc, &changed)?;
-        assert_eq!(rt; got.0, Status::Refused);
-        assert_eq!(rt; got.1.as_slice(), line.as_bytes());
+        change(&mut changed, place, bytes);
+        assert!(rt; analysed(alloc, &changed)?.refuses(line));
     }
     Ok(())
 }
@@ -59,21 +54,15 @@ fn refuses_each_cut(rt: HostRuntime) -> Result<(), Fail> {
         } else {
             String::from_str(alloc, "refused bad-table 00000020\n")?
         };
-        let got = analysed(alloc, &file[..length])?;
-        assert_eq!(rt; got.0, Status::Refused);
-        assert_eq!(rt; got.1.as_slice(), line.as_bytes());
+        assert!(rt; analysed(alloc, &file[..length])?.refuses(&line));
     }
     // Without sections it is the segment that doesn't fit.
-    let plain = file_of(alloc, &[0x03E0_0008, 0])?;
+    let plain = file_of(alloc, &[RETURN, 0])?;
     if plain.len() < 92 {
         return Ok(());
     }
     for length in 84..92usize {
-        let got = analysed(alloc, &plain[..length])?;
-        assert_eq!(rt;
-            got.1.as_slice(),
-            b"refused bad-segment 00000034\n".as_slice()
-        );
+        assert!(rt; analysed(alloc, &plain[..length])?.refuses("refused bad-segment 00000034\n"));
     }
     Ok(())
 }

@@ -1,74 +1,7 @@
-//! The top call on loops: bounds and counts by hand, and the faults of loops.
+//! Programs with loops: bounds and counts by hand, and the faults of loops.
 
-ghost use Rattle.std.specs.Prelude.{◌≤◌, length};
-
-use crate::tests::analysed;
-use crate::top::Status;
-use std::alloc::{AllocError, Global};
+use super::{COUNT, COUNTED, RETURN, printed};
 use std::test::Fail;
-
-/// An executable of one segment of flags 5 that holds these words, entered at its first one, with these
-/// records in a section `.wcet`.
-pub fn file_with(alloc: Global, words: &[u32], records: &[[u32; 4]]) -> Result<Vec<u8>, AllocError>
-    requires words { length words.now ≤ 128 }
-    requires records { length records.now ≤ 64 }
-{
-    let size = 4 * words.len() as u32;
-    let marks = 16 * records.len() as u32;
-    let begin = 84 + size;
-    let front = [
-        // The ELF header, with three sections behind the names, which are 17 bytes in section 2.
-        0x7F45_4C46,
-        0x0102_0100,
-        0,
-        0,
-        0x0002_0008,
-        1,
-        0x0040_0000,
-        52,
-        begin + marks + 17,
-        0,
-        0x0034_0020,
-        0x0001_0028,
-        0x0003_0002,
-        // The program header.
-        1,
-        84,
-        0x0040_0000,
-        0x0040_0000,
-        size,
-        size,
-        5,
-        4,
-    ];
-    let back = [
-        [0, 0, 0, 0, 0, 0, 0, 0, 0, 0],
-        [1, 1, 0, 0, begin, marks, 0, 0, 0, 0],
-        [7, 3, 0, 0, begin + marks, 17, 0, 0, 0, 0],
-    ];
-    let mut bytes = Vec::new(alloc);
-    for word in front {
-        bytes.extend_from_slice(&u32::to_be_bytes(word))?;
-    }
-    for word in words {
-        bytes.extend_from_slice(&word.to_be_bytes())?;
-    }
-    for record in records {
-        for word in record {
-            bytes.extend_from_slice(&word.to_be_bytes())?;
-        }
-    }
-    bytes.extend_from_slice(b"\0.wcet\0.shstrtab\0".as_slice())?;
-    for header in back {
-        for word in header {
-            bytes.extend_from_slice(&u32::to_be_bytes(word))?;
-        }
-    }
-    Ok(bytes)
-}
-
-/// A start, a loop of two units at 00400004 and 00400008, and the return.
-const COUNTED: [u32; 6] = [0x2408_0005, 0x2508_FFFF, 0x1500_FFFE, 0, 0x03E0_0008, 0];
 
 #[test]
 fn bounds_a_counted_loop(rt: HostRuntime) -> Result<(), Fail> {
@@ -92,11 +25,9 @@ fn bounds_a_counted_loop(rt: HostRuntime) -> Result<(), Fail> {
         ),
     ];
     for (bound, front) in rows {
-        let file = file_with(alloc, &COUNTED, &[[1, 0x0040_0004, bound, 0]])?;
-        let got = analysed(alloc, &file)?;
-        assert_eq!(rt; got.0, Status::Done);
-        assert!(rt; got.1.as_slice().starts_with(front.as_bytes()));
-        assert!(rt; got.1.as_slice().ends_with(b"\nend\n".as_slice()));
+        let got = printed(alloc, &COUNTED, &[[1, 0x0040_0004, bound, 0]])?;
+        assert!(rt; got.begins(front));
+        assert!(rt; got.text.as_slice().ends_with(b"\nend\n".as_slice()));
     }
     // Of several records that name the loop the least one holds; one at its slot names it too.
     let records = [
@@ -104,8 +35,7 @@ fn bounds_a_counted_loop(rt: HostRuntime) -> Result<(), Fail> {
         [1, 0x0040_0008, 5, 0],
         [1, 0x0040_000C, 7, 0],
     ];
-    let got = analysed(alloc, &file_with(alloc, &COUNTED, &records)?)?;
-    assert!(rt; got.1.as_slice().starts_with(b"bound 198\n".as_slice()));
+    assert!(rt; printed(alloc, &COUNTED, &records)?.begins("bound 198\n"));
     Ok(())
 }
 
@@ -120,7 +50,7 @@ const NESTED: [u32; 11] = [
     0,
     0x1480_FFF8,
     0,
-    0x03E0_0008,
+    RETURN,
     0,
 ];
 
@@ -133,13 +63,9 @@ fn bounds_nested_loops(rt: HostRuntime) -> Result<(), Fail> {
         [1, 0x0040_0004, 3, 0],
         [1, 0x0040_0008, 4, 0],
     ];
-    let got = analysed(alloc, &file_with(alloc, &NESTED, &records)?)?;
-    assert_eq!(rt; got.0, Status::Done);
-    assert!(rt;
-        got.1.as_slice().starts_with(
-            b"bound 1078\nreached 1078\nvalue 1 1\nvalue 2 2\nvalue 3 6\nvalue 4 24\nvalue 5 18\n".as_slice()
-        )
-    );
+    let front =
+        "bound 1078\nreached 1078\nvalue 1 1\nvalue 2 2\nvalue 3 6\nvalue 4 24\nvalue 5 18\n";
+    assert!(rt; printed(alloc, &NESTED, &records)?.begins(front));
     Ok(())
 }
 
@@ -150,16 +76,7 @@ const MOST: u32 = 0xFFFF_FFFF;
 fn refuses_faults_of_loops(rt: HostRuntime) -> Result<(), Fail> {
     let alloc = rt.alloc();
     // A branch into the middle of a loop.
-    let crossed = [
-        0x1080_0003,
-        0,
-        0x2508_FFFF,
-        0,
-        0x1500_FFFD,
-        0,
-        0x03E0_0008,
-        0,
-    ];
+    let crossed = [0x1080_0003, 0, COUNT, 0, 0x1500_FFFD, 0, RETURN, 0];
     // A loop that nothing leaves.
     let endless = [0x1000_FFFF, 0];
     let nest = [
@@ -200,12 +117,7 @@ fn refuses_faults_of_loops(rt: HostRuntime) -> Result<(), Fail> {
         (&NESTED, &nest, "refused bound-too-large 00400000\n"),
     ];
     for (words, records, line) in rows {
-        if words.len() > 64 || records.len() > 64 {
-            return Ok(());
-        }
-        let got = analysed(alloc, &file_with(alloc, words, records)?)?;
-        assert_eq!(rt; got.0, Status::Refused);
-        assert_eq!(rt; got.1.as_slice(), line.as_bytes());
+        assert!(rt; printed(alloc, words, records)?.refuses(line));
     }
     Ok(())
 }
