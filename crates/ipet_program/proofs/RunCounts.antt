@@ -20,15 +20,12 @@ use Rattle.flow_net.proofs.Numbers.{item_at-same}
 use Rattle.net_model.specs.Moments.{arcs_of, Moment}
 use Rattle.ipet_program.specs.Counts.{arc_cost, counts_of, cycles_along, IsFeasible, IsMet, path_cost, row_sum, value_of}
 use Rattle.ipet_program.specs.Leaves.{value_at, value_or_zero}
-use Rattle.ipet_program.specs.Certificates.{IsValid}
-use Rattle.ipet_program.specs.Programs.{arc_value, IsCheckable, IsProgramOf}
+use Rattle.ipet_program.specs.Programs.{arc_value, IsProgramOf}
 use Rattle.ipet_program.specs.Rows.{comes_to, entry_row, goes_from, is_entering, loop_factor, loop_row, loop_row_of, one_if, place_factor, place_row, rows_of, terms_of}
 use Rattle.ipet_program.specs.Scopes.{TellsHeld}
 use Rattle.ipet_program.specs.Sums.{numbered}
-use Rattle.ipet_program.specs.declared.certificate.Certificate.{Certificate}
 use Rattle.ipet_program.specs.declared.program.Program.{Program}
 use Rattle.ipet_program.specs.declared.program.Row.{Row}
-use Rattle.ipet_program.proofs.CertificateLaw.{certificate-bound}
 use Rattle.ipet_program.proofs.Exchange.{IsColumn}
 use Rattle.ipet_program.proofs.Numbered.{numbered-all, item_at-numbered, length-numbered}
 use Rattle.ipet_program.proofs.RunSums.{along, chain-columns, chain-of_run, counts-along, IsChain}
@@ -267,15 +264,3 @@ run-counts net price program is moments path keeps =
       value = value-run net price program is moments
           (chain-columns net.arcs 0 (arcs_of moments) 0 (chain-of_run net.arcs (arcs_of moments) 0 path));
     }
-
--- So its cycles are at most the bound of each valid certificate of the program.
-pub run-bound : (net : Net) (price : ℕ → ℕ) (program : Program) → IsProgramOf net price program →
-    IsCheckable program → (certificate : Certificate) → IsValid program certificate →
-    (moments : List Moment) → IsRunPath net.arcs (arcs_of moments) 0 →
-    KeepsBounds net (targets_along net.arcs (arcs_of moments)) →
-    cycles_along price net.arcs moments ≤ certificate.bound
-run-bound net price program is checkable certificate valid moments path keeps =
-    let run = run-counts net price program is moments path keeps in
-    let value = run.value in
-    let most = certificate-bound program certificate checkable valid (counts_of moments) run.feasible in
-    omega (arith, ints)
