@@ -8,7 +8,7 @@ use Rattle.unit_graph.specs.declared.graph.Graph.{Graph}
 use Rattle.unit_graph.specs.declared.node.Unit.{Unit as Node}
 use Rattle.call_contexts.specs.declared.calls.Called.{Called}
 
--- The graphs of different functions, the first one apart, the others by their rising entries.
+-- A first graph, and behind it others by their rising entries.
 pub record AreListed (graphs : List Graph) : Type 0 where
   pub first : Graph
   pub others : List Graph

@@ -59,7 +59,7 @@ pub record AreBases (units functions bases : List ℕ) : Type 0 where
   pub count : length bases ≡ suc (length functions)
   pub each : (context : ℕ) → context ≤ length functions → slice_get bases context ≡ Some (1 + sum_by (number_of units) (take context functions))
 
--- Lists of calls that make so many contexts from an entry on: the entry function is not called.
+-- Lists of calls that make so many contexts from an entry on: the entry function doesn't call itself.
 pub record AreReady (entry : ℕ) (lists : List (List Called)) (count : ℕ) : Type 0 where
   pub some : 0 < length lists
   pub within : IsWithin (steps_of lists)

@@ -13,7 +13,7 @@ listed Nowhere = []
 listed (One address) = address ∷ []
 listed (Two lesser greater) = lesser ∷ greater ∷ []
 
--- A unit of the instruction table at an address behind whose two words no address wraps.
+-- A unit whose instruction is one of the table, at an address behind whose two words no address wraps.
 pub record IsPlaced (unit : CodeUnit) (address : ℕ) : Type 0 where
   pub valid : IsValid unit.instr
   pub low : address + 8 < 2 ^ 32

@@ -28,14 +28,6 @@ pub fn check_header(file: &[u8]) -> Result<(), ElfFault>
     check_tables(file)
 }
 
-/// Whether the file has section headers.
-pub fn has_sections(file: &[u8]) -> bool
-    requires { 52 ≤ length file.now }
-    ensures { result ≡ not (e_shnum file.now == 0) }
-{
-    u16_at(file, E_SHNUM) != 0
-}
-
 /// The file has the bytes of a header.
 #[tactic(auto, unfolding(crate::specs::Rules::size_rules))]
 fn check_size(file: &[u8]) -> Result<(), ElfFault>

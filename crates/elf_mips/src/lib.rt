@@ -18,7 +18,6 @@ mod symbol;
 mod symbols;
 
 pub use fault::{ElfFault, ElfKind};
-pub use header::has_sections;
 pub use image::Image;
 pub use index::last_start;
 pub use mark::Mark;

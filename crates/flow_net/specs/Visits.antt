@@ -20,7 +20,7 @@ pub data KeepsBound (net : Net) (scope : ℕ) (inst : LoopInst) : (from left : �
       KeepsBound net scope inst inst.header left more →
       KeepsBound net scope inst from (suc left) (inst.header ∷ more)
 
--- The places that a run visits from its begin on keep the bound of each loop instance.
+-- The places that a run visits from its start on keep the bound of each loop instance.
 abbrev pub KeepsBounds : Net → List ℕ → Type 0
 KeepsBounds net places =
     (scope : ℕ) (inst : LoopInst) → item_at scope net.loops ≡ Some inst → KeepsBound net scope inst 0 0 places

@@ -6,7 +6,8 @@ use Rattle.ipet_program.specs.Scopes.{TellsHeld}
 use Rattle.ipet_program.specs.declared.fault.BuildFault.{BuildFault}
 use Rattle.ipet_program.specs.declared.fault.BuildFault.TheVariants.{TooLarge, Memory}
 
--- The crude bound is above the limit. Where it has more than 128 bits, 2^128 - 1 is told.
+-- The crude bound is above the limit. Where it has more than 128 bits, 2^128 - 1 is told. A nested net has a test that
+-- tells what is held (`held_test-tells` of proofs/Held.antt), and all such tests tell the same.
 pub record IsTooLarge (net : Net) (price : ℕ → ℕ) (crude : ℕ) : Type 0 where
   pub above : (holds : ℕ → ℕ → Bool) → TellsHeld net holds → crude_limit < crude_of net holds price
   pub told : (holds : ℕ → ℕ → Bool) → TellsHeld net holds →

@@ -58,11 +58,12 @@ price_at profile image (Some place) = content_cost (costs_of profile) (content_a
 abbrev pub place_price : Profile → Image → Net → ℕ → ℕ
 place_price profile image net number = price_at profile image (item_at number net.places)
 
--- Each place of the net stands for a unit of the image that has no fault.
+-- A unit of the image stands at an address, and its words have no fault.
 pub record IsUnitAt (image : Image) (address : ℕ) : Type 0 where
   pub unit : CodeUnit
   pub stands : content_at image address ≡ Stands unit
 
+-- Each place of the net stands for such a unit.
 abbrev pub FitsImage : Image → Net → Type 0
 FitsImage image net = All (λ (place : Place). IsUnitAt image place.address) net.places
 

@@ -34,7 +34,6 @@ pub use certificate::{Certificate, Count, Node};
 pub use counts::are_counts;
 pub use fault::BuildFault;
 pub use leaf::{Leaf, Side2, Weight};
-pub use price::unit_price;
 pub use program::{Program, Row, Stage, Term};
 pub use shows::shows_leaf;
 pub use split::{first_part, second_part};

@@ -26,7 +26,7 @@ IsSettled table numbers from to =
     × ((number_of numbers to < number_of numbers from) ⊎ IsFalling table numbers to from)
 
 -- The ranks of the positions, of which no two have the same one: a trail without lesser ranks leads to
--- each of them, and each step falls or has a falling trail beside it.
+-- each of them, and each step falls, or a falling trail leads from its target back to its source.
 pub record AreRanks (table : List (List ℕ)) (entry : ℕ) (ranks : List ℕ) : Type 0 where
   pub count : length ranks ≡ length table
   pub bound : (position : ℕ) → number_of ranks position ≤ length table

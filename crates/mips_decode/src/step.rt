@@ -3,13 +3,21 @@
 /// Why a unit traps. The order is that in which several causes of one instruction are looked for.
 #[derive(Clone, Copy, Debug, PartialEq, Eq)]
 pub enum TrapKind {
+    /// A sum or difference of ADD, ADDI or SUB doesn't fit 32 signed bits.
     Overflow,
+    /// The address of a load or store isn't a multiple of its size.
     Misaligned,
+    /// No one region holds all bytes of a load or store.
     Outside,
+    /// A store goes to a region that can't be written.
     ReadOnly,
+    /// No executable word stands at the address.
     Fetch,
+    /// The word is no instruction, or a jump or branch in a delay slot.
     Unknown,
+    /// SYSCALL.
     Syscall,
+    /// BREAK.
     Break,
 }
 

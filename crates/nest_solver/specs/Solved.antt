@@ -36,7 +36,7 @@ abbrev pub AreTurns : Shape → (depth : ℕ) → (best before after : ℕ → �
 AreTurns s depth best before after =
     (l : ℕ) → IsUpTo s.loops l → after l ≡ turned s depth best before l
 
--- Worths of places: along each arc the worth falls by at least the arc's weight. A back arc may use up
+-- Worths of places: along each arc from a place the worth falls by at least the arc's weight. A back arc may use up
 -- its loop's turn; those of loops deeper than `depth` aren't asked. (`weak` of proofs/Weak.antt: worths that ask all
 -- back arcs bound the value of all counts that the rows allow.)
 pub record IsDual (s : Shape) (weight turns : ℕ → ℕ) (depth : ℕ) (worth : ℕ → ℕ) : Type 0 where

@@ -5,7 +5,7 @@ use Rattle.ipet_program.specs.Leaves.{value_at}
 use Rattle.ipet_program.specs.declared.program.Program.{Program}
 use Rattle.nest_solver.specs.Shape.{IsUpTo}
 
--- The table tells the values of the columns, none of which is negative, without their signs.
+-- The table tells the values of the columns without their signs. (In a net's program none is negative.)
 pub record AreValues (program : Program) (values : ℕ → ℕ) : Type 0 where
   pub told : (i : ℕ) → IsUpTo (length program.value) i → values i ≡ unsigned_abs (value_at program i)
 

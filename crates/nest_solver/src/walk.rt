@@ -12,7 +12,7 @@ use crate::sweep::ends;
 use crate::tables::Tables;
 use flow_net::Net;
 
-/// Counts the arc that was chosen at a place so many times more.
+/// Counts the arc that was chosen at a place so many times more, and gives its number.
 fn pass(choice: &[usize], place: usize, often: u64, counts: &mut [u64]) -> usize
     requires place { place < length choice.now }
     requires within { entry choice.now place < length counts.old }

@@ -54,9 +54,9 @@ abbrev pub AreVisited : Net → List Stand → List ℕ → Type 0
 AreVisited net stands places = AllZip (IsPlaceFor net) stands places
 
 -- A run keeps the records of an image: each indirect transfer goes to a target recorded for it, and in the net the
--- places that the run visits keep the bound of each loop instance, as far as the visits have places. So a run that
--- returns to another place than its caller's is asked for the bounds up to there: each front of its visits that all
--- have places keeps them. (A program has one net, as far as its places and its loop instances go.)
+-- places that the run visits keep the bound of each loop instance, as far as the visits have places: each front of
+-- them that all have places keeps it. (Behind a return to another place than the caller's a visit may have none. A
+-- program has one net: `net-once` of call_contexts/proofs/NetOnce.antt.) Records of ranges aren't asked.
 pub record KeepsRecords (image : Image) (entry : ℕ) (code : ℕ → Option ℕ) (s : State) (states : List State) : Type 0 where
   pub targets : KeepTargets (targets_at image) code s states
   pub bounds : (net : Net) → IsNet image entry net → (front rest : List Stand) → visits code [] s states ≡ front ++ rest →
@@ -77,8 +77,8 @@ pub record StandsAt (net : Net) (stand : Stand) (number : ℕ) : Type 0 where
   pub within : (stand.address ≡ return_address → ⊥) → IsPlaceFor net stand number
 
 -- A run goes along a path of the net that begins with arc 1: the arcs go to where the run stands, one after the
--- other. So the units that the run did are the places of the path in order, and the path ends with an arc to 0
--- where the entry has returned.
+-- other. So the units that the run did are in order the places that the path comes to, but for the last one: that is
+-- where the run stands, and 0 where the entry has returned.
 pub record GoesAlong (net : Net) (code : ℕ → Option ℕ) (s : State) (states : List State) : Type 0 where
   pub numbers : List ℕ
   pub to : ℕ

@@ -48,7 +48,11 @@ fn tells_cycles_and_searches(rt: HostRuntime) -> Result<(), Fail> {
     );
     let back = reverse_of(alloc, &table)?;
     assert_eq!(rt; back.len(), 3);
-    assert_eq!(rt; order_of(alloc, &table)?.len(), 3);
+    assert!(rt; back[0].as_slice().is_empty());
+    assert_eq!(rt; back[1].as_slice(), [0, 2].as_slice());
+    assert_eq!(rt; back[2].as_slice(), [0, 1].as_slice());
+    // 0 goes to both others, so it stands behind them; the steps of a position are looked at from its last one on.
+    assert_eq!(rt; order_of(alloc, &table)?.as_slice(), [1, 2, 0].as_slice());
     assert_eq!(rt;
         steps_to(alloc, &[4, 8, 12], &[12, 16, 4])?.as_slice(),
         [2, 0].as_slice()

@@ -114,7 +114,7 @@ pub record IsInferring (rows : List Row) (rules : List Rule) (seen waiting : Lis
   pub low : (x : ℕ) → Contains seen x → x < 2 ^ 32
   pub rising : IsStrictlySortedBy nat_cmp seen
 
--- Just those of the rows' addresses that can return.
+-- All of the rows' addresses that can return, and no address that can't.
 pub record AreReturning (image : Image) (rows : List Row) (returning : List ℕ) : Type 0 where
   pub sound : CanAllReturn image returning
   pub whole : (x : ℕ) → HasRow rows x → CanReturn image x → Contains returning x

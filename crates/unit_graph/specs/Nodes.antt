@@ -7,7 +7,7 @@ use Rattle.unit_graph.specs.declared.rows.Row.{Row}
 use Rattle.unit_graph.specs.Flow.{Follows}
 use Rattle.unit_graph.specs.Graphs.{AreJust}
 
--- The node of a row's unit.
+-- The node of a unit that stands at a row's address.
 pub record IsNodeOf (returning : List ℕ) (row : Row) (unit : CodeUnit) (node : Node) : Type 0 where
   pub address : node.address ≡ row.address
   pub slot : node.slot ≡ is_some unit.slot

@@ -47,7 +47,7 @@ pub record IsProgram (image : Image) (entry : ℕ) (program : Program) : Type 0 
 abbrev pub AreUnits : List Row → (returning : List ℕ) → ℕ → Type 0
 AreUnits rows returning function = (x : ℕ) → IsLed (Leads rows returning Function) function x → HasUnit rows x
 
--- Behind some graphs stand those of these functions, in their order, but for the entry's.
+-- Behind some graphs stand those of these functions but for the entry's, rising where the functions rise.
 pub record AreGraphsOf (image : Image) (entry : ℕ) (functions : List ℕ) (before later : List Graph) : Type 0 where
   pub others : List Graph
   pub parts : later ≡ before ++ others

@@ -1,4 +1,4 @@
--- The flow program of the program's net counts every run that the sentence speaks of, so that a bound of its counts
+-- The flow program of the program's net counts every run that the headline speaks of, so that a bound of its counts
 -- bounds the run.
 use Rattle.std.proofs.Common.{◌≡◌, ℕ, ◌+◌, ◌<◌, List, [], ◌∷◌, ◌++◌, map, Option, Some, All, true, pos, refl, ap, sym, subst, ◌∙◌, append-nil, arith}
 use Rattle.std.specs.Prelude.{◌==◌, ◌≤ℤ◌}
@@ -49,7 +49,7 @@ use Rattle.net_model.proofs.Contents.{IsFetched-unit, unit-content}
 use Rattle.net_model.proofs.Steps.{unit-goes}
 use Rattle.net_model.proofs.Zero.{IsZero}
 use Rattle.wcet_engine.specs.Runs.{CountsRuns, IsCounted}
-use Rattle.wcet_engine.specs.Sentence.{Bounds}
+use Rattle.wcet_engine.specs.Headline.{Bounds}
 use Rattle.wcet_engine.specs.Stages.{IsNetOf}
 use Rattle.wcet_engine.proofs.UnitCosts.{step_cost-unit, transfer-alone}
 
@@ -228,7 +228,7 @@ module _ (profile : Profile) (image : Image) (net : Net) (units : HasUnits image
       path-counted entry program s states is of_net records arc there path.1.2 numbers to path.1.3 onward
       (priced states [] s arc.to numbers to path.1.3 onward kept.zero kept.run kept.targets place)
 
--- The program of the net counts each run that the sentence speaks of.
+-- The program of the net counts each run that the headline speaks of.
 pub counts-runs : (image : Image) (profile : Profile) (entry : ℕ) (net : Net) (program : Program) →
     IsNetOf image entry net → IsProgramOf net (place_price profile image net) program → CountsRuns image profile entry net program
 counts-runs image profile entry net program is of_net m start machines spoken =

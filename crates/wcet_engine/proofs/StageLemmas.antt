@@ -72,6 +72,7 @@ is-analysed image profile entry graphs nests net certificate program is certifie
       valid = certifies.valid;
       reached = certifies.reached;
       tree = certifies.tree;
+      line = certifies.line;
       greatest = greatest;
       counted = counted;
       bounds = counted-bounds image profile entry net certifies.program certificate.bound counted greatest;

@@ -9,6 +9,6 @@ pub mod Outcomes
 pub mod ProgramFaults
 pub mod Refusals
 pub mod Runs
-pub mod Sentence
+pub mod Headline
 pub mod Texts
 pub mod Words

@@ -26,7 +26,7 @@ use Rattle.wcet_engine.specs.declared.refusal.RefusalKind.TheVariants.{WritableC
 use Rattle.wcet_engine.specs.Certificates.{IsOneLeaf}
 use Rattle.wcet_engine.specs.Refusals.{at_number, kind_of_code, rank, says_at}
 use Rattle.wcet_engine.specs.Runs.{CountsRuns, HasPaths}
-use Rattle.wcet_engine.specs.Sentence.{Bounds}
+use Rattle.wcet_engine.specs.Headline.{Bounds}
 
 -- The program's code has a fault of the kind at the place: a reached address holds it, a function calls itself, a unit
 -- lies on a cycle without back arcs, or a loop has no bound.
@@ -42,7 +42,8 @@ pub record IsTooMany (image : Image) (entry : ℕ) : Type 0 where
   pub sizes : AreSizes image entry contexts places
   pub many : AreTooMany contexts places
 
--- The crude bound of a net is above its limit: the price of each place, times the bounds of the loops that hold it.
+-- The crude bound of a net is above its limit: the price of each place, times the bounds of the loops that hold it. A
+-- nested net has a test that tells what is held (`held_test-tells` of ipet_program/proofs/Held.antt).
 abbrev pub IsLargeNet : Image → Profile → Net → Type 0
 IsLargeNet image profile net =
     (holds : ℕ → ℕ → Bool) → TellsHeld net holds → crude_limit < crude_of net holds (place_price profile image net)
@@ -90,13 +91,14 @@ pub record IsAnalysisOf (image : Image) (profile : Profile) (entry : ℕ) (analy
   pub program : Program
   pub is_program : IsProgramOf net (place_price profile image net) program
   -- The certificate is valid for this program: its counts are feasible, and their value is its bound. Its tree is one
-  -- leaf, which shows the bound.
+  -- leaf, which shows the bound. The counts' value is told in the second line.
   pub valid : IsValid program analysis.certificate
   pub reached : analysis.certificate.reached ≡ analysis.certificate.bound
   pub tree : IsOneLeaf analysis.certificate.tree
+  pub line : analysis.certificate.reached_line ≡ 2
   -- No counts that the program allows have a value above the bound.
   pub greatest : (counts : ℕ → ℕ) → IsFeasible program counts → value_of program counts ≤ℤ pos analysis.certificate.bound
-  -- The program allows the counts of each run that the sentence speaks of, and their value is the run's cycles. So no
+  -- The program allows the counts of each run that the headline speaks of, and their value is the run's cycles. So no
   -- such run takes more cycles than the bound.
   pub counted : CountsRuns image profile entry net program
   pub bounds : Bounds image profile entry analysis.certificate.bound

@@ -14,7 +14,7 @@ use Rattle.mips_machine.specs.Machine.{IsMachineStart, Machine}
 use Rattle.mips_machine.specs.Run.{last_machine, values_of}
 use Rattle.net_model.specs.Moments.{Moment, arcs_of}
 use Rattle.net_model.specs.Runs.{GoesAlong, IsKeptRun, StandsAt, stands}
-use Rattle.wcet_engine.specs.Sentence.{IsSpokenOf}
+use Rattle.wcet_engine.specs.Headline.{IsSpokenOf}
 
 -- Each run whose indirect transfers go to recorded targets and which returns to its callers goes along a path of the
 -- net, up to any state.
@@ -35,7 +35,7 @@ pub record IsCounted (net : Net) (program : Program) (code : ℕ → Option ℕ)
   -- Their value is the cycles of the run.
   pub value : value_of program (counts_of moments) ≡ pos cycles
 
--- Each run of the machine that the sentence speaks of is so counted, with its cycles.
+-- Each run of the machine that the headline speaks of is so counted, with its cycles.
 abbrev pub CountsRuns : Image → Profile → (entry : ℕ) → Net → Program → Type 0
 CountsRuns image profile entry net program =
     (m : Machine) → IsMachineStart image profile entry m → (machines : List Machine) → IsSpokenOf image entry m machines →

@@ -69,6 +69,7 @@ pub record Certifies (image : Image) (profile : Profile) (net : Net) (certificat
   pub valid : IsValid program certificate
   pub reached : certificate.reached ≡ certificate.bound
   pub tree : IsOneLeaf certificate.tree
+  pub line : certificate.reached_line ≡ 2
 
 -- The crude bound of the program's net is too large.
 abbrev pub TellsTooLarge : Image → Profile → ℕ → Refused → Type 0

@@ -42,6 +42,7 @@ fn certificate_of(alloc: Global, program: &Program, net: &Net) -> Result<Certifi
     ensures valid { IfOk result (IsValid program.now) }
     ensures reached { IfOk result (λ certificate. certificate.reached ≡ certificate.bound) }
     ensures tree { IfOk result (λ certificate. IsOneLeaf certificate.tree) }
+    ensures line { IfOk result (λ certificate. certificate.reached_line ≡ 2) }
 {
     let leaf = nest_bound(alloc, program, net)?;
     let counts = nest_counts(alloc, program, net)?;

@@ -36,7 +36,7 @@ pub enum RefusalKind {
     /// The stack or a region of the profile shares an address with a loaded segment. The place is the least such
     /// address.
     RegionClash,
-    /// The profile has caches, which aren't analysed yet. The place is 0.
+    /// The profile has the key `cache`: caches aren't analysed yet. The place is 0.
     Unbuilt,
     /// A reached word lies in a segment that can be executed and written. The place is its address.
     WritableCode,

@@ -50,7 +50,7 @@ pub fn wcet_main<F: Shelf, O: Sink>(
     ensures unwritten { result ≡ Status.Usage → out.new ≡ out.old }
 
     // What is written, for the contents that the shelf tells: the lines of an analysis for which the
-    // sentence of the bound holds, or the first fault with its place.
+    // headline holds, or the first fault with its place.
     ensures wrote { IfSome (form_of (words_of words.now)) (λ form.
         Wrote form.command (read_by (F.told files.old) form) result (O.held out.old) (O.held out.new)) }
 

@@ -14,7 +14,8 @@ sink_of s = record {
   faults = s.faults;
 }
 
--- The vector has the room from the start on, so that a put takes no memory.
+-- A put takes a byte at least, and no more than the room are taken in all. The vector has the room from the start on,
+-- so that a put takes no memory.
 pub record KeepsRoom (s : Inside) : Type 0 where
   pub positive : 0 < s.step
   pub within : vec_len s.bytes ≤ s.room

@@ -1,4 +1,4 @@
--- The sentence that the printed bound stands for.
+-- The headline that the printed bound stands for.
 use Rattle.std.specs.Prelude.{ℕ, ◌≤◌, List, []}
 use Rattle.cache_config.specs.declared.profile.Profile.{Profile}
 use Rattle.elf_mips.specs.declared.image.Image.{Image}
@@ -9,7 +9,7 @@ use Rattle.mips_machine.specs.Machine.{Machine, IsMachineStart}
 use Rattle.mips_machine.specs.Run.{IsMachineRun, last_machine, values_of}
 use Rattle.net_model.specs.Runs.{KeepsRecords}
 
--- What the sentence asks of a list of machines: it is a run of the machine, keeps the records, returns to its callers,
+-- What the headline asks of a list of machines: it is a run of the machine, keeps the records, returns to its callers,
 -- and its entry has returned.
 pub record IsSpokenOf (image : Image) (entry : ℕ) (m : Machine) (machines : List Machine) : Type 0 where
   pub run : IsMachineRun m machines
