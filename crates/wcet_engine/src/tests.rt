@@ -1,5 +1,6 @@
 //! The top call on files in memory: how the trials make files, and what they look at.
 
+mod bytes;
 mod calls;
 mod code;
 mod contexts;
