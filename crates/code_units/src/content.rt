@@ -1,6 +1,6 @@
 //! What stands at an address of an image.
 
-ghost use Rattle.std.specs.Prelude.{◌≡◌, ◌+◌, ◌<◌, ◌^◌, IfErr, IfOk, IfSome, IfNone, OnOk, OnSome};
+ghost use Rattle.std.specs.Prelude.{◌≡◌, ◌+◌, ◌<◌, ◌^◌, true, IfErr, IfOk, IfSome, IfNone, OnOk, OnSome};
 ghost use Rattle.elf_mips.specs.Segments.{code_at};
 ghost use Rattle.mips_decode.specs.Step.{fetched, Found};
 ghost use Rattle.mips_decode.specs.Table.{IsValid};
@@ -47,6 +47,7 @@ fn word_at(image: &Image, address: u32) -> Result<Instr, CodeKind>
 /// What stands at the address of a jump or branch, whose slot is the next word.
 fn slot_content(image: &Image, instr: Instr, address: u32) -> Content
     requires valid { IsValid instr }
+    requires transfer { is_transfer instr ≡ true }
     requires low { address + 8 < 2 ^ 32 }
     ensures exact { result ≡ with_slot instr (address + 4) (word_at image.now (address + 4)) }
     ensures placed { IfPlaced result address }

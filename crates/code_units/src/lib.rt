@@ -9,6 +9,7 @@ mod tests;
 mod transfers;
 mod ways;
 
+pub use content::content_at;
 pub use linked::unit_at;
 pub use targets::{targets_at, targets_of};
 pub use transfers::{is_indirect, is_register_call, own_callee, own_ways};

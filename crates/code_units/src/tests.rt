@@ -4,8 +4,8 @@ ghost use Rattle.std.specs.Prelude.{IfOk};
 ghost use Rattle.mips_decode.specs.Table.{IsValid};
 
 use crate::{
-    Ways, is_indirect, is_link_passed, is_register_call, load_of, own_callee, own_ways, returns,
-    stops, targets_at, targets_of, unit_at,
+    Ways, content_at, is_indirect, is_link_passed, is_register_call, load_of, own_callee, own_ways,
+    returns, stops, targets_at, targets_of, unit_at,
 };
 use elf_mips::{Image, read_image};
 use mips_decode::{Instr, decode};
@@ -32,9 +32,7 @@ fn instr_of(word: u32) -> Result<Instr, Fail>
     }
 }
 
-fn unit_of(word: u32, slot: u32) -> Result<CodeUnit, Fail>
-    ensures { IfOk result (λ unit. IsValid unit.instr) }
-{
+fn unit_of(word: u32, slot: u32) -> Result<CodeUnit, Fail> {
     let instr = instr_of(word)?;
     let slot = instr_of(slot)?;
     Ok(CodeUnit {
@@ -153,6 +151,9 @@ fn finds_units_by_recorded_targets(rt: HostRuntime) -> Result<(), Fail> {
     assert_eq!(rt; unit_at(&image, targets.as_slice(), START), jump);
     assert_eq!(rt; unit_at(&image, targets.as_slice(), 0x0040_0008), call);
     assert_eq!(rt; unit_at(&image, targets.as_slice(), 0x0040_0010), back);
+    // By its words alone a unit stands there.
+    let words_alone = Content::Unit(unit_of(CALL_REG, 0)?);
+    assert_eq!(rt; content_at(&image, 0x0040_0008), words_alone);
     // With a target JALR still links to register 2.
     let records = [[0x0040_0008, START], [START, START], [START, START]];
     let image = image_of(alloc, &words, &records)?;

@@ -19,7 +19,7 @@ pub enum Ways {
 
 ghost use Rattle.net_model.specs.Onward.{branch_ways, is_link_passed, is_load, is_return, is_stop, load_of, may_be_passed, may_be_taken, returns, stops};
 ghost use Rattle.code_units.specs.Sets.{IsSetOf};
-ghost use Rattle.code_units.specs.Ways.{IsPlaced, listed};
+ghost use Rattle.code_units.specs.Ways.{listed};
 
 /// Whether a branch may be taken: a register equals itself, and register 0 is zero.
 pub fn may_be_taken(op: BranchOp, rs: u32, rt: u32) -> bool
@@ -105,7 +105,7 @@ fn is_load(instr: &Instr) -> bool
 
 /// The address of the unit's instruction or slot that loads.
 pub fn load_of(unit: &CodeUnit, address: u32) -> Option<u32>
-    requires { IsPlaced unit.now address }
+    requires { address + 8 < 2 ^ 32 }
     ensures { result ≡ load_of unit.now address }
 {
     if is_load(&unit.instr) {

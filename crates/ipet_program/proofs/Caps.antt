@@ -1,13 +1,13 @@
 -- Counts that meet the rows of places and of loop instances are at most their caps, taken as often as the run begins:
 -- so feasible counts are at most their caps, and their value is at most the crude bound.
-use Rattle.std.proofs.Common.{◌≡◌, ℕ, zero, suc, ◌+◌, ◌-◌, ◌*◌, ◌≤◌, ◌<◌, ◌^◌, Bool, true, false, List, [], ◌∷◌, ◌++◌, length, drop, get_or, All, Option, Some, None, refl, sym, ap, ◌∙◌, subst, inl, inr, ◌⊎◌, arith}
+use Rattle.std.proofs.Common.{◌≡◌, ℕ, zero, suc, ◌-◌, ◌*◌, ◌≤◌, Bool, true, false, List, [], ◌∷◌, ◌++◌, length, drop, get_or, All, Option, Some, None, refl, sym, ap, ◌∙◌, subst, inl, inr, arith}
 use Rattle.std.specs.Prelude.{◌==◌, if◌then◌else◌}
 use Rattle.std.proofs.Math.Nat.{mul-le-mul_left}
 use Rattle.std.proofs.lemmas.Bool.{cases_eq}
 use Rattle.std.proofs.lemmas.Bool.Decides.{nat_tests}
 use Rattle.std.proofs.lemmas.Int.{ints}
 use Rattle.std.proofs.lemmas.List.Elements.{All-cons, All-head, All-nil, All-same, All-tail}
-use lib.IntN.{ℤ, pos, ◌+ℤ◌, ◌*ℤ◌}
+use lib.IntN.{ℤ, pos, ◌*ℤ◌}
 use lib.Signed.{◌≤ℤ◌}
 use Rattle.flow_net.specs.Nested.{IsNested}
 use Rattle.flow_net.specs.Numbers.{item_at, IsNumberOf, IsNumberOrZero}
@@ -25,14 +25,13 @@ use Rattle.ipet_program.specs.Rows.{entry_row, goes_from, loop_row, loop_row_of,
 use Rattle.ipet_program.specs.Scopes.{turns_at}
 use Rattle.ipet_program.specs.Sums.{numbered, sum_to}
 use Rattle.ipet_program.specs.declared.program.Program.{Program}
-use Rattle.ipet_program.specs.declared.program.Row.{Row}
 use Rattle.ipet_program.proofs.Exchange.{IsColumn}
 use Rattle.ipet_program.proofs.FlowSums.{flow, flow-kept, flow-same, into, marks-into, MeetsFlow, out_of}
 use Rattle.ipet_program.proofs.Numbered.{item_at-numbered}
-use Rattle.ipet_program.proofs.PlaceCaps.{place-capped, turns-positive}
+use Rattle.ipet_program.proofs.PlaceCaps.{place-capped}
 use Rattle.ipet_program.proofs.RunCounts.{length-value, value_at-arc}
 use Rattle.ipet_program.proofs.Terms.{row_sum-terms}
-use Rattle.ipet_program.proofs.Totals.{total_to, total_to-one, total_to-order, total_to-same}
+use Rattle.ipet_program.proofs.Totals.{total_to, total_to-one, total_to-order}
 use Rattle.ipet_program.proofs.Values.{value_of-total}
 use Rattle.ipet_program.proofs.Whole.{mul-order}
 

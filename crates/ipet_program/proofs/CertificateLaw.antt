@@ -1,10 +1,10 @@
 -- The law of a valid certificate: no feasible counts have a value above its bound, and the listed ones have the
 -- value that it reached. It names no algorithm.
-use Rattle.std.proofs.Common.{◌≡◌, ℕ, ◌+◌, ◌≤◌, ◌<◌, List, [], ◌∷◌, ◌++◌, All, refl, sym, subst, inl, inr, ◌⊎◌, arith}
+use Rattle.std.proofs.Common.{ℕ, ◌≤◌, ◌<◌, List, [], ◌∷◌, ◌++◌, inl, inr, ◌⊎◌, arith}
 use Rattle.std.proofs.lemmas.Bool.{cases_lt}
 use Rattle.std.proofs.lemmas.Int.{ints}
 use Rattle.std.proofs.lemmas.List.Elements.{All-nil, All-push}
-use lib.IntN.{ℤ, pos, negsuc}
+use lib.IntN.{pos}
 use lib.Signed.{◌≤ℤ◌}
 use Rattle.ipet_program.specs.Certificates.{AreValid, first_part, IsSplit, IsValid, second_part}
 use Rattle.ipet_program.specs.Counts.{IsFeasible, IsMet, listed, value_of}

@@ -1,6 +1,6 @@
 -- Multipliers of rows: the sum over rows of what they sum to is the sum over columns of what these get.
-use Rattle.std.proofs.Common.{◌≡◌, ℕ, zero, suc, ◌+◌, ◌≤◌, Bool, true, false, cond, List, [], ◌∷◌, ◌++◌, map, All, Option, Some, None, refl, sym, ap, ◌∙◌, subst, arith}
-use Rattle.std.specs.Prelude.{◌==◌, filter, flat_map}
+use Rattle.std.proofs.Common.{◌≡◌, ℕ, ◌≤◌, Bool, true, false, cond, List, [], ◌∷◌, ◌++◌, map, All, Option, Some, None, refl, ap, ◌∙◌, arith}
+use Rattle.std.specs.Prelude.{◌==◌, filter}
 use Rattle.std.proofs.lemmas.Int.{ints}
 use Rattle.std.proofs.lemmas.Bool.Decides.{nat_tests}
 use Rattle.std.proofs.lemmas.List.Elements.{All-head, All-tail}
@@ -9,7 +9,7 @@ use lib.IntN.{ℤ, pos, ◌+ℤ◌, ◌*ℤ◌}
 use Rattle.flow_net.specs.Numbers.{item_at}
 use Rattle.flow_net.proofs.Numbers.{item_at-all}
 use Rattle.ipet_program.specs.Counts.{row_sum}
-use Rattle.ipet_program.specs.Leaves.{column_parts, parts_in, right_part, right_parts, total}
+use Rattle.ipet_program.specs.Leaves.{column_parts, parts_in, total}
 use Rattle.ipet_program.specs.declared.leaf.Weight.{Weight}
 use Rattle.ipet_program.specs.declared.program.Row.{Row}
 use Rattle.ipet_program.specs.declared.program.Term.{Term}

@@ -16,7 +16,6 @@ pub mod ListedLemmas
 pub mod TestLemmas
 pub mod FlowSums
 pub mod Low
-pub mod Units
 pub mod Priced
 pub mod Products
 pub mod Bits128

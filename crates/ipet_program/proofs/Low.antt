@@ -1,20 +1,17 @@
 -- The places of a scope that lie low: below a rank, or in an inner loop whose header is below it.
-use Rattle.std.proofs.Common.{◌≡◌, ℕ, zero, suc, ◌+◌, ◌≤◌, ◌<◌, List, length, Option, Some, None, refl, sym, ap, ◌∙◌, subst, inl, inr, ◌⊎◌, arith}
+use Rattle.std.proofs.Common.{◌≡◌, ℕ, zero, suc, ◌≤◌, ◌<◌, length, Option, Some, None, refl, sym, ap, ◌∙◌, subst, inl, inr, ◌⊎◌, arith}
 use Rattle.std.proofs.lemmas.Bool.{cases_eq, cases_lt}
 use Rattle.std.proofs.lemmas.Option.{none-some}
-use Rattle.flow_net.specs.Nested.{HasRanks, IsBack, IsNested}
+use Rattle.flow_net.specs.Nested.{IsBack, IsNested}
 use Rattle.flow_net.specs.Numbers.{item_at}
 use Rattle.flow_net.specs.Scopes.{ChainsEnd, Holds, IsWithin}
-use Rattle.flow_net.specs.Scopes.IsWithin.{here, out}
 use Rattle.flow_net.specs.declared.net.LoopInst.{LoopInst}
 use Rattle.flow_net.specs.declared.net.Net.{Net}
 use Rattle.flow_net.specs.declared.net.NetArc.{NetArc}
-use Rattle.flow_net.specs.declared.net.Place.{Place}
 use Rattle.flow_net.proofs.Chains.{within-decided}
 use Rattle.flow_net.proofs.Headers.{header-scope}
-use Rattle.flow_net.proofs.Holds.{holds-decided, holds-place, holds-through, holds-zero}
+use Rattle.flow_net.proofs.Holds.{holds-decided, holds-place, holds-through}
 use Rattle.flow_net.proofs.Numbers.{item_at-same, item_at-within}
-use Rattle.flow_net.proofs.Within.{within-cases, within-line, within-through}
 
 -- A loop strictly inside the scope holds the place, and its header is below the rank.
 pub record InLow (net : Net) (rank : ℕ → ℕ) (scope limit place : ℕ) : Type 0 where

@@ -1,15 +1,15 @@
 -- A place is come to at most as often as the loops round it let it be visited, for each time that the run begins.
-use Rattle.std.proofs.Common.{◌≡◌, ℕ, zero, suc, ◌+◌, ◌-◌, ◌*◌, ◌≤◌, ◌<◌, Bool, true, false, List, length, get_or, Option, Some, None, refl, sym, ap, ◌∙◌, subst, inl, inr, ◌⊎◌, arith}
-use Rattle.std.specs.Prelude.{◌==◌, if◌then◌else◌}
+use Rattle.std.proofs.Common.{◌≡◌, ℕ, zero, suc, ◌+◌, ◌-◌, ◌*◌, ◌≤◌, ◌<◌, Bool, true, false, length, get_or, Option, Some, None, refl, ap, ◌∙◌, subst, inl, inr, arith}
+use Rattle.std.specs.Prelude.{◌==◌}
 use Rattle.std.proofs.Math.Nat.{mul-le-mul_left}
 use Rattle.std.proofs.lemmas.Bool.{cases_eq}
 use Rattle.std.proofs.lemmas.Bool.Decides.{nat_tests}
 use Rattle.std.proofs.lemmas.Int.{ints}
 use Rattle.std.proofs.lemmas.Option.{none-some}
-use lib.IntN.{ℤ, pos, ◌+ℤ◌, ◌*ℤ◌}
+use lib.IntN.{ℤ, pos, ◌*ℤ◌}
 use lib.Signed.{◌≤ℤ◌}
 use Rattle.flow_net.specs.Nested.{IsNested}
-use Rattle.flow_net.specs.Numbers.{item_at, IsNumberOf, IsNumberOrZero}
+use Rattle.flow_net.specs.Numbers.{item_at, IsNumberOrZero}
 use Rattle.flow_net.specs.Scopes.{Holds, IsWithin}
 use Rattle.flow_net.specs.Scopes.IsWithin.{here, out}
 use Rattle.flow_net.specs.declared.net.LoopInst.{LoopInst}
@@ -19,7 +19,6 @@ use Rattle.flow_net.specs.declared.net.Place.{Place}
 use Rattle.flow_net.proofs.Headers.{header-scope}
 use Rattle.flow_net.proofs.Holds.{holds-place, holds-run}
 use Rattle.flow_net.proofs.Numbers.{item_at-all, item_at-same, item_at-there, item_at-within}
-use Rattle.ipet_program.specs.Programs.{arc_cap}
 use Rattle.ipet_program.specs.Rows.{goes_from, one_if}
 use Rattle.ipet_program.specs.Scopes.{TellsHeld, turns_at}
 use Rattle.ipet_program.specs.Sums.{product_to}

@@ -1,10 +1,9 @@
 -- The flow of places and of loops in their scopes.
-use Rattle.std.proofs.Common.{◌≡◌, ℕ, zero, suc, ◌+◌, ◌≤◌, ◌<◌, Bool, true, false, List, length, Option, Some, None, refl, sym, ap, ◌∙◌, subst, inl, inr, ◌⊎◌, arith}
+use Rattle.std.proofs.Common.{◌≡◌, ℕ, ◌<◌, Bool, true, false, List, length, Option, Some, refl, sym, ap, ◌∙◌, subst, inl, inr, ◌⊎◌, arith}
 use Rattle.std.specs.Prelude.{◌==◌, ◌&&◌, not}
 use Rattle.std.proofs.lemmas.Bool.{cases_eq}
 use Rattle.std.proofs.lemmas.Bool.Decides.{nat_tests}
 use Rattle.std.proofs.lemmas.Int.{ints}
-use Rattle.std.proofs.lemmas.Option.{none-some}
 use lib.IntN.{ℤ, pos, ◌+ℤ◌, ◌*ℤ◌}
 use lib.Signed.{◌≤ℤ◌}
 use Rattle.flow_net.specs.Nested.{IsBack, IsNested}
@@ -22,10 +21,9 @@ use Rattle.flow_net.proofs.Within.{within-cases}
 use Rattle.ipet_program.specs.Rows.{comes_to, is_entering, loop_factor, one_if}
 use Rattle.ipet_program.specs.Scopes.{TellsHeld}
 use Rattle.ipet_program.proofs.FlowSums.{flow, flow-same, flow-sum, into, MeetsFlow}
-use Rattle.ipet_program.proofs.Low.{InLow}
 use Rattle.ipet_program.proofs.ScopeFlow.{AreForwardTo, IsHigh}
 use Rattle.ipet_program.proofs.Terms.{row_sum-terms}
-use Rattle.ipet_program.proofs.Totals.{total_to, total_to-same, total_to-scaled}
+use Rattle.ipet_program.proofs.Totals.{total_to-same, total_to-scaled}
 use Rattle.ipet_program.proofs.Whole.{mul-assoc}
 
 -- A scope within another one is that one or deeper.

@@ -1,26 +1,22 @@
 -- What comes to a place of a scope, or into a loop right inside it, is at most what comes to the scope's header; in
 -- the run, at most what begins it.
-use Rattle.std.proofs.Common.{◌≡◌, ℕ, zero, suc, ◌+◌, ◌≤◌, ◌<◌, Bool, true, false, List, length, Option, Some, None, refl, sym, ap, ◌∙◌, subst, inl, inr, ◌⊎◌, arith}
-use Rattle.std.specs.Prelude.{◌==◌, ◌&&◌, not}
+use Rattle.std.proofs.Common.{◌≡◌, ℕ, zero, suc, ◌≤◌, ◌<◌, Bool, true, false, length, Option, Some, refl, sym, ap, ◌∙◌, subst, inl, inr, ◌⊎◌, arith}
+use Rattle.std.specs.Prelude.{◌==◌}
 use Rattle.std.proofs.lemmas.Bool.{cases_eq}
 use Rattle.std.proofs.lemmas.Bool.Decides.{nat_tests}
 use Rattle.std.proofs.lemmas.Int.{ints}
 use Rattle.std.proofs.lemmas.Option.{none-some}
-use lib.IntN.{ℤ, pos, ◌+ℤ◌, ◌*ℤ◌}
+use lib.IntN.{ℤ, pos, ◌+ℤ◌}
 use lib.Signed.{◌≤ℤ◌}
 use Rattle.flow_net.specs.Nested.{IsBack, IsNested}
 use Rattle.flow_net.specs.Numbers.{item_at}
-use Rattle.flow_net.specs.Scopes.{ChainsEnd, Holds, IsWithin}
-use Rattle.flow_net.specs.Scopes.IsWithin.{here, out}
+use Rattle.flow_net.specs.Scopes.{Holds}
 use Rattle.flow_net.specs.declared.net.LoopInst.{LoopInst}
 use Rattle.flow_net.specs.declared.net.Net.{Net}
 use Rattle.flow_net.specs.declared.net.NetArc.{NetArc}
-use Rattle.flow_net.specs.declared.net.Place.{Place}
-use Rattle.flow_net.proofs.Headers.{header-scope}
-use Rattle.flow_net.proofs.Holds.{holds-decided, holds-place, holds-zero}
+use Rattle.flow_net.proofs.Holds.{holds-decided, holds-zero}
 use Rattle.flow_net.proofs.Numbers.{item_at-same}
-use Rattle.flow_net.proofs.Within.{within-cases}
-use Rattle.ipet_program.specs.Rows.{comes_to, goes_from, is_entering, one_if}
+use Rattle.ipet_program.specs.Rows.{comes_to, goes_from, one_if}
 use Rattle.ipet_program.proofs.FlowSums.{cut, flow, into, MeetsFlow, out_of}
 use Rattle.ipet_program.proofs.Low.{InLow, IsLow, low-arc, low-back, low-decided}
 

@@ -4,13 +4,13 @@ use Rattle.std.specs.Prelude.{FitsSigned}
 use Rattle.std.specs.Bool.{OnFalse, OnTrue}
 use Rattle.std.specs.Int.{w128}
 use Rattle.std.proofs.lemmas.Int.{ints}
-use lib.IntN.{ℤ, pos, negsuc, ◌+ℤ◌, ◌*ℤ◌}
+use lib.IntN.{ℤ, pos, ◌*ℤ◌}
 use lib.Signed.{◌≤ℤ◌}
 use Rattle.flow_net.specs.Numbers.{item_at}
 use Rattle.ipet_program.specs.Adding.{AreTaken, MayTakeAll, sum_in}
-use Rattle.ipet_program.specs.Leaves.{all_rows, column_parts, FitFrom, FitsBound, IsLeaf, right_parts, Shows, total, value_at, value_or_zero}
+use Rattle.ipet_program.specs.Leaves.{all_rows, column_parts, FitFrom, FitsBound, IsLeaf, Shows, total, value_at, value_or_zero}
 use Rattle.ipet_program.specs.Programs.{IsCheckable}
-use Rattle.ipet_program.specs.Shown.{AreCovered, IsBelow, IsCovered, NoneNegative, ShowBound, ShowNone}
+use Rattle.ipet_program.specs.Shown.{AreCovered, IsCovered, ShowBound, ShowNone}
 use Rattle.ipet_program.specs.declared.leaf.Leaf.{Leaf}
 use Rattle.ipet_program.specs.declared.leaf.Side2.{Side2}
 use Rattle.ipet_program.specs.declared.program.Program.{Program}

@@ -1,7 +1,6 @@
 -- Adding parts to the columns' sums, one list of parts behind another.
-use Rattle.std.proofs.Common.{◌≡◌, ◌≢◌, ℕ, zero, suc, ◌+◌, ◌-◌, ◌≤◌, ◌<◌, Bool, true, false, cond, List, [], ◌∷◌, ◌++◌, length, take, drop, get_or, map, Some, refl, sym, ap, ◌∙◌, subst, inl, inr, ◌⊎◌, arith}
-use Rattle.std.specs.Prelude.{◌==◌, filter, FitsSigned, slice_set}
-use Rattle.std.specs.Int.{w128}
+use Rattle.std.proofs.Common.{◌≡◌, ℕ, ◌+◌, ◌-◌, ◌≤◌, ◌<◌, Bool, true, false, cond, List, [], ◌∷◌, ◌++◌, length, take, drop, get_or, map, Some, refl, sym, ap, ◌∙◌, subst, inl, inr, arith}
+use Rattle.std.specs.Prelude.{◌==◌, filter, slice_set}
 use Rattle.std.proofs.lemmas.Bool.{cases_eq}
 use Rattle.std.proofs.lemmas.Bool.Decides.{nat_tests}
 use Rattle.std.proofs.lemmas.Int.{ints}
@@ -9,7 +8,7 @@ use Rattle.std.proofs.lemmas.List.{get_or-set_other, get_or-set_same, map-append
 use Rattle.std.proofs.lemmas.List.Elements.{filter-append}
 use lib.IntN.{ℤ, pos, ◌+ℤ◌, ◌*ℤ◌, +ℤ_assoc, +ℤ_idr}
 use lib.Signed.{◌≤ℤ◌}
-use Rattle.ipet_program.specs.Adding.{AreAdded, Fit, HaveRoom, IsTaken, MayTake, sum_in, terms_parts}
+use Rattle.ipet_program.specs.Adding.{AreAdded, Fit, HaveRoom, IsTaken, sum_in, terms_parts}
 use Rattle.ipet_program.specs.Leaves.{cut_row, cut_row_by, FitFrom, IsSigned, total}
 use Rattle.ipet_program.specs.declared.leaf.Side2.{Side2}
 use Rattle.ipet_program.specs.declared.program.Row.{Row}

@@ -1,9 +1,8 @@
 -- The program of the tests keeps what the checks ask of it.
-use Rattle.std.proofs.Common.{◌≡◌, ℕ, suc, ◌≤◌, ◌<◌, ◌^◌, ℤ, pos, negsuc, List, [], ◌∷◌, length, All, unsigned_abs, refl, sym, ap, subst, arith}
+use Rattle.std.proofs.Common.{◌≡◌, ℕ, ◌≤◌, ℤ, pos, negsuc, List, [], ◌∷◌, length, unsigned_abs, sym, ap, subst, arith}
 use Rattle.std.proofs.lemmas.List.Elements.{All-cons, All-nil, All-same}
 use Rattle.ipet_program.specs.Programs.{IsCheckable, IsSmall, IsSmallRow}
 use Rattle.ipet_program.specs.Programs.IsSmall.{above, below}
-use Rattle.ipet_program.specs.declared.program.Program.{Program}
 use Rattle.ipet_program.specs.declared.program.Row.{Row}
 use Rattle.ipet_program.specs.declared.program.Stage.{Stage}
 use Rattle.ipet_program.specs.declared.program.Term.{Term}

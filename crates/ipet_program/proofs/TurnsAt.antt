@@ -1,5 +1,5 @@
 -- Products of the bounds of the loops round a place.
-use Rattle.std.proofs.Common.{◌≡◌, ℕ, zero, suc, ◌+◌, ◌*◌, ◌≤◌, ◌<◌, Bool, true, false, length, All, Option, Some, None, refl, sym, ap, ◌∙◌, subst, inl, inr, ◌⊎◌, arith}
+use Rattle.std.proofs.Common.{◌≡◌, ℕ, zero, suc, ◌*◌, ◌≤◌, Bool, true, false, Option, Some, None, refl, sym, ap, ◌∙◌, inl, inr, arith}
 use Rattle.std.specs.Prelude.{if◌then◌else◌}
 use Rattle.std.proofs.Math.Nat.{mul-le-mul_left}
 use Rattle.std.proofs.lemmas.Bool.{cases_eq}
@@ -8,7 +8,7 @@ use Rattle.flow_net.specs.Numbers.{item_at}
 use Rattle.flow_net.specs.declared.net.LoopInst.{LoopInst}
 use Rattle.flow_net.specs.declared.net.Net.{Net}
 use Rattle.flow_net.proofs.Numbers.{item_at-all}
-use Rattle.ipet_program.specs.Scopes.{bound_of, turns_at}
+use Rattle.ipet_program.specs.Scopes.{bound_of}
 use Rattle.ipet_program.specs.Sums.{product_to}
 
 pub mul-le : (a b c d : ℕ) → a ≤ b → c ≤ d → a * c ≤ b * d

@@ -1,8 +1,7 @@
 -- The value of counts as a sum over the columns.
-use Rattle.std.proofs.Common.{◌≡◌, ℕ, zero, suc, ◌+◌, ◌≤◌, List, [], ◌∷◌, length, slice_get, refl, sym, ap, ◌∙◌, subst, arith}
+use Rattle.std.proofs.Common.{◌≡◌, ℕ, zero, suc, ◌+◌, List, [], ◌∷◌, length, slice_get, refl, ap, ◌∙◌, arith}
 use Rattle.std.proofs.lemmas.Int.{ints}
 use lib.IntN.{ℤ, pos, ◌+ℤ◌, ◌*ℤ◌}
-use Rattle.flow_net.specs.Numbers.{item_at}
 use Rattle.ipet_program.specs.Counts.{value_from, value_of}
 use Rattle.ipet_program.specs.Leaves.{value_at, value_or_zero}
 use Rattle.ipet_program.specs.declared.program.Program.{Program}

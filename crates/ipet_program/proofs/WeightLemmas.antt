@@ -1,14 +1,14 @@
 -- Adding the rows of weights, one behind another.
-use Rattle.std.proofs.Common.{◌≡◌, ℕ, zero, suc, ◌+◌, ◌-◌, ◌≤◌, ◌<◌, List, [], ◌∷◌, ◌++◌, length, take, drop, get_or, map, slice_get, All, Option, Some, None, option_map, refl, sym, ap, ◌∙◌, subst, arith}
-use Rattle.std.specs.Prelude.{flat_map, IfNone}
+use Rattle.std.proofs.Common.{◌≡◌, ℕ, zero, suc, ◌+◌, ◌-◌, ◌≤◌, ◌<◌, List, [], ◌∷◌, ◌++◌, length, take, drop, get_or, map, slice_get, Option, Some, None, option_map, sym, ap, ◌∙◌, subst, arith}
+use Rattle.std.specs.Prelude.{IfNone}
 use Rattle.std.proofs.lemmas.Int.{ints}
 use Rattle.std.proofs.lemmas.List.{append-nil, length-append, length-map, take-append-drop, take_more}
 use Rattle.std.proofs.lemmas.List.Concat.{flat_map-append, flat_map-cons}
 use Rattle.std.proofs.lemmas.List.Elements.{All-get_or, All-more}
 use Rattle.std.proofs.lemmas.Option.{slice_get-get_or, slice_get-map}
-use lib.IntN.{ℤ, pos, ◌+ℤ◌, ◌*ℤ◌}
+use lib.IntN.{ℤ, pos, ◌+ℤ◌}
 use Rattle.flow_net.specs.Numbers.{item_at, IsNumberOf}
-use Rattle.ipet_program.specs.Adding.{AreAdded, AreTaken, Fit, HaveRoom, IsTaken, IsWeightTaken, MayTake, MayTakeAll, MayTakeWeight, sum_in}
+use Rattle.ipet_program.specs.Adding.{AreTaken, IsTaken, IsWeightTaken, MayTake, MayTakeAll, MayTakeWeight, sum_in}
 use Rattle.ipet_program.specs.Leaves.{all_rows, column_parts, cut_row, FitFrom, IsSigned, parts_in, right_part, right_parts, total}
 use Rattle.ipet_program.specs.declared.leaf.Side2.{Side2}
 use Rattle.ipet_program.specs.declared.leaf.Weight.{Weight}

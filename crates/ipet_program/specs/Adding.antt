@@ -1,5 +1,5 @@
 -- What a pass over the rows of a leaf adds to a sum for each column, and to the right side.
-use Rattle.std.specs.Prelude.{◌≡◌, ℕ, ◌-◌, ◌≤◌, ◌==◌, ℤ, pos, ◌+ℤ◌, ◌*ℤ◌, ◌≤ℤ◌, List, [], ◌∷◌, map, filter, All, Option, slice_index_or}
+use Rattle.std.specs.Prelude.{◌≡◌, ℕ, ◌-◌, ◌≤◌, ◌==◌, ℤ, pos, ◌+ℤ◌, ◌*ℤ◌, List, map, filter, All, Option, slice_index_or}
 use Rattle.flow_net.specs.Numbers.{item_at, IsNumberOf}
 use Rattle.ipet_program.specs.Leaves.{all_rows, column_parts, FitFrom, IsSigned, parts_in, right_part, right_parts, total}
 use Rattle.ipet_program.specs.declared.leaf.Side2.{Side2}

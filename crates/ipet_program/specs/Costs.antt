@@ -1,10 +1,8 @@
 -- The cycles of a unit.
-use Rattle.std.specs.Prelude.{◌≡◌, ℕ, ◌+◌, Option, Some, None, IfSome, true}
+use Rattle.std.specs.Prelude.{ℕ, ◌+◌, Option, Some, None}
 use Rattle.mips_decode.specs.declared.instr.Instr.{Instr}
 use Rattle.mips_decode.specs.declared.instr.Instr.TheVariants.{Load, Store}
 use Rattle.cache_config.specs.Instructions.{Costs, cost_of}
-use Rattle.mips_decode.specs.Table.{IsValid}
-use Rattle.net_model.specs.Units.{is_transfer}
 use Rattle.net_model.specs.declared.unit.CodeUnit.{CodeUnit}
 use Rattle.net_model.specs.declared.unit.Content.{Content}
 use Rattle.net_model.specs.declared.unit.Content.TheVariants.{Unit as Stands, Fault}
@@ -35,8 +33,3 @@ content_cost costs (Fault kind place) = 0
 -- The most cycles of a unit: two classes, two fetches, and a load or store.
 abbrev pub price_limit : ℕ
 price_limit = 5000000
-
--- The unit's instructions are of the table, and only a jump or branch has a slot.
-pub record IsStanding (unit : CodeUnit) : Type 0 where
-  pub valid : IsValid unit.instr
-  pub slot : IfSome unit.slot (λ slot. IsValid slot × (is_transfer unit.instr ≡ true))

@@ -1,8 +1,6 @@
 -- What the columns' sums and the right side show once the rows of a leaf have been added.
-use Rattle.std.specs.Prelude.{◌≡◌, ℕ, ◌+◌, ◌<◌, ◌≤◌, ℤ, pos, negsuc, ◌+ℤ◌, ◌*ℤ◌, ◌≤ℤ◌, List, length, slice_index_or, FitsSigned}
+use Rattle.std.specs.Prelude.{ℕ, ◌+◌, ◌<◌, ℤ, pos, negsuc, ◌+ℤ◌, ◌*ℤ◌, ◌≤ℤ◌, List, length, slice_index_or, FitsSigned}
 use Rattle.std.specs.Int.{w128}
-use Rattle.ipet_program.specs.Adding.{sum_in}
-use Rattle.ipet_program.specs.Leaves.{value_at}
 use Rattle.ipet_program.specs.declared.program.Program.{Program}
 
 -- A sum is at least a value taken denom times, a product that fits.

@@ -27,7 +27,6 @@ mod standing;
 #[cfg(test)]
 mod tests;
 mod turns;
-mod unit;
 
 pub use assemble::build;
 pub use certificate::{Certificate, Count, Node};

@@ -3,7 +3,8 @@
 ghost use Rattle.std.specs.Prelude.{◌≡◌, ◌≤◌, if◌then◌else◌, true};
 ghost use Rattle.mips_decode.specs.Table.{IsValid};
 ghost use Rattle.net_model.specs.Units.{is_transfer};
-ghost use Rattle.ipet_program.specs.Costs.{IsStanding, instr_cost, price_limit, touch_cost, unit_cost};
+ghost use Rattle.code_units.specs.Ways.{IsStanding};
+ghost use Rattle.ipet_program.specs.Costs.{instr_cost, price_limit, touch_cost, unit_cost};
 
 use cache_config::Costs;
 use mips_decode::{Instr, Touched};

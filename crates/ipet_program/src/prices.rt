@@ -8,10 +8,11 @@ ghost use Rattle.ipet_program.specs.Sums.{numbered};
 ghost use Rattle.ipet_program.specs.Tables.{IsPrice};
 
 use crate::price::unit_price;
-use crate::unit::unit_at;
 use cache_config::{Costs, Profile};
+use code_units::content_at;
 use elf_mips::Image;
 use flow_net::Net;
+use net_model::Content;
 use std::alloc::{AllocError, Global};
 
 /// The cycles of the unit at an address where one stands.
@@ -20,7 +21,10 @@ fn price_at(image: &Image, costs: &Costs, address: u32) -> u64
     ensures value { result ≡ content_cost costs.now (content_at image.now address) }
     ensures priced { IsPrice result }
 {
-    unit_price(costs, &unit_at(image, address))
+    match content_at(image, address) {
+        Content::Unit(unit) => unit_price(costs, &unit),
+        Content::Fault { .. } => unreachable!(),
+    }
 }
 
 /// The cycles of the unit of each place.

@@ -1,7 +1,7 @@
 -- The cut's row has been taken where its right side's product fits as well.
-use Rattle.std.proofs.Common.{◌≡◌, ◌+ℤ◌, ◌*ℤ◌, ℤ, [], ◌∷◌, FitsSigned, refl, subst, arith, rules}
+use Rattle.std.proofs.Common.{[], ◌∷◌, FitsSigned, refl, rules}
 use Rattle.std.specs.Int.{w64, w128}
-use Rattle.std.proofs.lemmas.Int.{ints, to_z-of_z}
+use Rattle.std.proofs.lemmas.Int.{to_z-of_z}
 use Rattle.std.proofs.lemmas.Option.{IfSome_then}
 use Rattle.ipet_program.specs.declared.program.Term.{Term}
 use Rattle.ipet_program.proofs.SumLemmas.{cut-taken}

@@ -4,7 +4,7 @@ use Rattle.std.specs.Int.{w128}
 use Rattle.std.proofs.lemmas.Int.{ints, to_z-of_z}
 use Rattle.ipet_program.specs.Adding.{sum_in}
 use Rattle.ipet_program.specs.Leaves.{FitFrom}
-use Rattle.ipet_program.proofs.SumLemmas.{term-added, term-passed}
+use Rattle.ipet_program.proofs.SumLemmas.{term-added}
 use Rattle.ipet_program.proofs.adding.add_term.Goals as goal
 
 pub returns-clause-added : goal.returns-clause-added

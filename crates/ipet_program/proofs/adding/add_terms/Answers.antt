@@ -1,6 +1,6 @@
 -- One more term has been added, or doesn't fit.
-use Rattle.std.proofs.Common.{◌≡◌, ◌+ℤ◌, ◌*ℤ◌, ℕ, ℤ, List, pos, arith, rules}
-use Rattle.std.proofs.lemmas.Int.{ints, to_z-of_z}
+use Rattle.std.proofs.Common.{ℕ, List, pos, arith}
+use Rattle.std.proofs.lemmas.Int.{to_z-of_z}
 use Rattle.ipet_program.specs.Adding.{terms_parts}
 use Rattle.ipet_program.specs.declared.program.Term.{Term}
 use Rattle.ipet_program.proofs.SumLemmas.{fit-fails, room-more, terms-append}

@@ -1,5 +1,5 @@
 -- The row of the weight's number is one of the program's, or a cut's.
-use Rattle.std.proofs.Common.{◌≡◌, ◌-◌, get_or, length, false, FitsSigned, arith, rules}
+use Rattle.std.proofs.Common.{◌-◌, get_or, length, false, FitsSigned, arith, rules}
 use Rattle.std.specs.Int.{w128}
 use Rattle.std.proofs.lemmas.Int.{to_z-of_z}
 use Rattle.std.proofs.lemmas.Option.{IfSome_then}

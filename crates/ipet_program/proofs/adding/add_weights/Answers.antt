@@ -1,8 +1,7 @@
 -- One more weight has been taken, or can't be.
-use Rattle.std.proofs.Common.{◌≡◌, ℕ, ℤ, pos, FitsSigned, arith, rules}
+use Rattle.std.proofs.Common.{pos, FitsSigned, arith, rules}
 use Rattle.std.specs.Int.{w128}
 use Rattle.std.proofs.lemmas.Int.{to_z-of_z}
-use Rattle.ipet_program.specs.declared.leaf.Weight.{Weight}
 use Rattle.ipet_program.proofs.WeightLemmas.{weight-may, weights-more}
 use Rattle.ipet_program.proofs.adding.add_weights.Goals as goal
 

@@ -1,5 +1,5 @@
 -- One more count is of a column.
-use Rattle.std.proofs.Common.{◌≡◌, ◌≤◌, All, take, sym, arith, rules}
+use Rattle.std.proofs.Common.{◌≤◌, take, sym, arith}
 use Rattle.std.proofs.lemmas.List.{take_all}
 use Rattle.std.proofs.lemmas.List.Elements.{All-more, All-same}
 use Rattle.ipet_program.specs.declared.certificate.Count.{Count}

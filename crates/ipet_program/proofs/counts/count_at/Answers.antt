@@ -1,5 +1,5 @@
 -- The count at the place is the column's, or none is.
-use Rattle.std.proofs.Common.{◌≡◌, ℕ, ◌<◌, ◌≤◌, get_or, length, sym, arith, rules}
+use Rattle.std.proofs.Common.{◌≡◌, ◌<◌, get_or, length, sym, arith}
 use Rattle.ipet_program.specs.declared.certificate.Count.{Count}
 use Rattle.ipet_program.proofs.ListedLemmas.{listed-found, listed-gap}
 use Rattle.ipet_program.proofs.counts.count_at.Goals as goal

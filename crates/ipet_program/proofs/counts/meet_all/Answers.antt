@@ -1,5 +1,5 @@
 -- One more row is met.
-use Rattle.std.proofs.Common.{◌≡◌, All, subst, sym, take, arith, rules}
+use Rattle.std.proofs.Common.{subst, sym, take, arith}
 use Rattle.std.proofs.lemmas.List.{take_all}
 use Rattle.std.proofs.lemmas.List.Elements.{All-more, All-same}
 use Rattle.ipet_program.specs.Counts.{IsMet, listed}

@@ -1,6 +1,5 @@
 -- The partition gives the place.
-use Rattle.std.proofs.Common.{◌≡◌, ℕ, nat_lt, get_or, true, false, arith, rules}
-use Rattle.std.specs.List.Sorted.{IsPartitionPoint}
+use Rattle.std.proofs.Common.{nat_lt, get_or, arith, rules}
 use Rattle.std.proofs.lemmas.Bool.{ltb-false, ltb-true}
 use Rattle.std.proofs.lemmas.List.Sorted.{IsPartitionPoint-from_clause, IsPartitionedBy-ltb}
 use Rattle.ipet_program.specs.declared.certificate.Count.{Count}

@@ -1,5 +1,5 @@
 -- One more term.
-use Rattle.std.proofs.Common.{◌≡◌, ◌+◌, ◌+ℤ◌, ◌*ℤ◌, ◌≤◌, ◌^◌, ℕ, ℤ, pos, get_or, FitsSigned, unsigned_abs, ap, sym, subst, ◌∙◌, arith, rules}
+use Rattle.std.proofs.Common.{◌≡◌, ◌+◌, ◌+ℤ◌, ◌*ℤ◌, ℕ, ℤ, pos, get_or, FitsSigned, ap, arith, rules}
 use Rattle.std.specs.Int.{w64, w128}
 use Rattle.std.proofs.lemmas.Int.{ints, to_z-of_z}
 use Rattle.ipet_program.specs.Counts.{listed}

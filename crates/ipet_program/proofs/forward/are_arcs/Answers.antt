@@ -1,8 +1,8 @@
 -- Each arc is looked at.
-use Rattle.std.proofs.Common.{◌≡◌, ℕ, ◌+◌, ◌<◌, List, length, get_or, subst, sym, ap, arith}
+use Rattle.std.proofs.Common.{◌≡◌, ℕ, ◌+◌, List, length, get_or, subst, ap, arith}
 use Rattle.flow_net.specs.declared.net.NetArc.{NetArc}
 use Rattle.ipet_program.specs.Forward.{EachItem, IsForwardArc}
-use Rattle.ipet_program.proofs.EachItems.{each-next, each-none}
+use Rattle.ipet_program.proofs.EachItems.{each-next}
 use Rattle.ipet_program.proofs.forward.are_arcs.Goals as goal
 
 pub loop-index-preserved : goal.loop-index-preserved

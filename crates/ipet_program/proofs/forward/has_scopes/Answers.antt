@@ -1,5 +1,5 @@
 -- Where each outer scope is lesser, the numbers are the depths.
-use Rattle.std.proofs.Common.{◌≡◌, ℕ, ◌≤◌, ◌<◌, List, length, subst, ap, arith}
+use Rattle.std.proofs.Common.{◌≡◌, ◌≤◌, ◌<◌, List, length, subst, ap, arith}
 use Rattle.std.proofs.lemmas.List.Elements.{All-same, All-weaker}
 use Rattle.flow_net.specs.Numbers.{IsNumberOrZero}
 use Rattle.flow_net.specs.declared.net.LoopInst.{LoopInst}

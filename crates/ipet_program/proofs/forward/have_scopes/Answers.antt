@@ -1,5 +1,5 @@
 -- Each of the places is looked at.
-use Rattle.std.proofs.Common.{◌≡◌, ◌<◌, ◌≤◌, List, length, All, take, sym, arith}
+use Rattle.std.proofs.Common.{◌≡◌, ◌≤◌, take, sym, arith}
 use Rattle.std.proofs.lemmas.List.{take_all}
 use Rattle.std.proofs.lemmas.List.Elements.{All-more, All-same}
 use Rattle.flow_net.specs.declared.net.Place.{Place}

@@ -1,5 +1,5 @@
 -- The rows, values and caps are those that are written.
-use Rattle.std.proofs.Common.{refl, ◌∙◌, rules}
+use Rattle.std.proofs.Common.{refl, ◌∙◌}
 use Rattle.ipet_program.proofs.TestLemmas.{checkable-program}
 use Rattle.ipet_program.proofs.leaf_tests.program.Goals as goal
 

@@ -1,5 +1,5 @@
 -- The sums of the columns are those of the leaf's rows, and show what it says or not.
-use Rattle.std.proofs.Common.{◌≡◌, ◌≤ℤ◌, ℤ, List, pos, FitsSigned, subst, arith, rules}
+use Rattle.std.proofs.Common.{◌≤ℤ◌, List, pos, FitsSigned, subst, arith, rules}
 use Rattle.std.specs.Int.{w128}
 use Rattle.std.proofs.lemmas.Int.{ints, to_z-of_z}
 use Rattle.ipet_program.specs.Adding.{AreTaken}
