@@ -1,5 +1,6 @@
 #!/usr/bin/env bash
-# Time and peak memory of the bound of nested loops, by their depth and number, with 60,000 records.
+# Time and peak memory of the bound of nested loops, by their depth and number, with 60,000 records, and of the refusal of
+# functions in which one cycle behind many loops is entered at two places.
 # The peak is at least that of the Python which starts the program, some 14,000 KiB.
 # usage: bench/nests.sh [FOLDER]   (the files are made in FOLDER, or in a new one that is removed again)
 set -eu
@@ -13,6 +14,8 @@ import sys
 from measure import START, run, write
 
 RETURN = [0x03E00008, 0]
+# A cycle of the units at 8, C and 10, with the branch to its last one before it.
+ENTERED_TWICE = [0x10800003, 0, 0x2508FFFF, 0, 0x1500FFFD, 0]
 RECORDS = 60000
 BOUND = 3
 
@@ -34,16 +37,25 @@ def nests(depth, loops):
     nest = 0
     for _ in range(depth):
         nest = BOUND * (11 + nest + 22)
-    return words + RETURN, headers, count * nest + 22
+    return words, headers, count * nest + 22
+
+
+def tell(name, words, headers, units, wanted):
+    """A line on the program of these words and a return behind them: its name, units, time, memory and answer."""
+    # Each loop is named many times: by greater bounds, and once by its own.
+    records = [(1, headers[at % len(headers)], BOUND + at // len(headers), 0) for at in range(RECORDS)]
+    path = os.path.join(sys.argv[1], "-".join(name.split()))
+    write(path, words + RETURN, records)
+    answer, seconds, peak = run(path)
+    mark = "" if answer == wanted else f"  WANTED {wanted}"
+    print(f"{name}  {units:5} units  {seconds:6.3f} s  {peak:8} KiB  {answer}{mark}")
 
 
 for depth, loops in [(depth, 840) for depth in range(1, 9)] + [(4, loops) for loops in (400, 800, 1600, 3200)] + [(8, loops) for loops in (8000, 16000, 32000)]:
     words, headers, bound = nests(depth, loops)
-    # Each loop is named many times: by greater bounds, and once by its own.
-    records = [(1, headers[at % len(headers)], BOUND + at // len(headers), 0) for at in range(RECORDS)]
-    path = os.path.join(sys.argv[1], f"nests-{depth}-{loops}")
-    write(path, words, records)
-    answer, seconds, peak = run(path)
-    mark = "" if answer == f"bound {bound}" else f"  WANTED bound {bound}"
-    print(f"depth {depth}  {loops:5} loops  {2 * loops + 1:5} units  {seconds:6.3f} s  {peak:8} KiB  {answer}{mark}")
+    tell(f"depth {depth}  {loops:5} loops", words, headers, 2 * loops + 1, f"bound {bound}")
+for loops in (8000, 20000):
+    words, headers, _ = nests(1, loops)
+    refused = f"refused irreducible {START + 4 * len(words) + 8:08X}"
+    tell(f"depth 1  {loops:5} loops, and a cycle entered twice", words + ENTERED_TWICE, headers, 2 * loops + 5, refused)
 PYTHON

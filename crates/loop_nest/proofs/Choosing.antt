@@ -60,6 +60,14 @@ pub chosen_end : (P : ℕ → Type 0) (xs : List ℕ) (i : ℕ) (list : List ℕ
     AreChosen P xs list
 chosen_end P xs i list end are = subst (λ (ys : List ℕ). AreChosen P ys list) (take_all i xs end) are
 
+-- All positions are chosen.
+pub chosen_all : (P : ℕ → Type 0) (positions list : List ℕ) → list ≡ positions → ((x : ℕ) → Contains positions x → P x) →
+    AreChosen P positions list
+chosen_all P positions list e holds x = (
+  λ c. let among : Contains positions x = subst (λ (xs : List ℕ). Contains xs x) e c in (among, holds x among),
+  λ (among, held). subst (λ (xs : List ℕ). Contains xs x) (sym e) among,
+)
+
 -- The same by another fact that holds of the same positions.
 pub chosen_as : (P Q : ℕ → Type 0) (positions list : List ℕ) → AreChosen P positions list → ((x : ℕ) → P x ↔ Q x) →
     AreChosen Q positions list

@@ -1,70 +1,17 @@
 -- The steps that are no back arcs, and cycles of them.
-use Rattle.std.proofs.Common.{◌≡◌, ℕ, ◌+◌, ◌<◌, ◌≤◌, List, [], ◌∷◌, ◌++◌, take, length, length-append, get_or, sym, subst, ◌∙◌, Some, arith, inl, inr, ◌⊎◌}
+use Rattle.std.proofs.Common.{◌≡◌, ℕ, ◌+◌, ◌<◌, List, [], ◌∷◌, ◌++◌, length, length-append, sym, subst, ◌∙◌, Some, arith, inl, inr, ◌⊎◌}
 use Rattle.std.specs.Prelude.{Contains, slice_get}
 use Rattle.std.proofs.lemmas.Bool.{cases_eq}
-use Rattle.std.proofs.lemmas.List.{take_all, take_more}
-use Rattle.std.proofs.lemmas.List.Elements.{Contains-append_left, Contains-push, Contains-push_cases}
 use Rattle.loop_nest.specs.Arcs.{Crosses, IsBack}
 use Rattle.step_table.specs.Cycles.{IsCyclic}
 use Rattle.loop_nest.specs.Cycles.{AreForward, IsForward}
 use Rattle.step_table.specs.Numbers.{number_of}
 use Rattle.loop_nest.specs.Ranks.{AreRanks, IsFalling}
-use Rattle.step_table.specs.Table.{IsMet, IsStep, IsWithin}
+use Rattle.step_table.specs.Table.{IsMet, IsReverse, IsStep, IsWithin}
 use Rattle.step_table.proofs.Meeting.{a_step, step_among}
 use Rattle.step_table.proofs.Places.{place_cases, place_last, place_left}
 use Rattle.loop_nest.proofs.Removing.{falling_met}
 use Rattle.step_table.proofs.Reversing.{from_within, step_within, within_by}
-use Rattle.step_table.proofs.Seen.{in_none}
-
-pub forward_none : (sources : List (List ℕ)) (from : ℕ) (list : List ℕ) → list ≡ [] → AreForward sources from [] list
-forward_none sources from list e x = (
-  λ c. absurd (in_none x (subst (λ (xs : List ℕ). Contains xs x) e c)),
-  λ (c, free). absurd (in_none x c),
-)
-
-forward_push : (sources : List (List ℕ)) (from : ℕ) (steps list : List ℕ) (one : ℕ) →
-    AreForward sources from steps list → (IsStep sources one from → ⊥) →
-    AreForward sources from (steps ++ one ∷ []) (list ++ one ∷ [])
-forward_push sources from steps list one are free x = (
-  λ c. elim (Contains-push_cases list one x c) as (λ _. Contains (steps ++ one ∷ []) x × (IsStep sources x from → ⊥)) [
-    | inl p ↦ let (among, other) = (are x).0 p in (Contains-append_left steps (one ∷ []) x among, other)
-    | inr e ↦ subst (λ (at : ℕ). Contains (steps ++ one ∷ []) at × (IsStep sources at from → ⊥)) e
-        (Contains-push steps one, free)
-  ],
-  λ (c, other). elim (Contains-push_cases steps one x c) as (λ _. Contains (list ++ one ∷ []) x) [
-    | inl p ↦ Contains-append_left list (one ∷ []) x ((are x).1 (p, other))
-    | inr e ↦ subst (Contains (list ++ one ∷ [])) e (Contains-push list one)
-  ],
-)
-
-forward_skip : (sources : List (List ℕ)) (from : ℕ) (steps list : List ℕ) (one : ℕ) →
-    AreForward sources from steps list → IsStep sources one from → AreForward sources from (steps ++ one ∷ []) list
-forward_skip sources from steps list one are there x = (
-  λ c. let (among, other) = (are x).0 c in (Contains-append_left steps (one ∷ []) x among, other),
-  λ (c, other). elim (Contains-push_cases steps one x c) as (λ _. Contains list x) [
-    | inl p ↦ (are x).1 (p, other)
-    | inr e ↦ absurd (other (subst (λ (at : ℕ). IsStep sources at from) e there))
-  ],
-)
-
-pub forward_more : (sources : List (List ℕ)) (from : ℕ) (xs : List ℕ) (i : ℕ) (list : List ℕ) → i < length xs →
-    AreForward sources from (take i xs) list → (IsStep sources (get_or xs i 0) from → ⊥) →
-    AreForward sources from (take (i + 1) xs) (list ++ get_or xs i 0 ∷ [])
-forward_more sources from xs i list inside are free =
-    subst (λ (ys : List ℕ). AreForward sources from ys (list ++ get_or xs i 0 ∷ [])) (sym (take_more xs i 0 inside))
-    (forward_push sources from (take i xs) list (get_or xs i 0) are free)
-
-pub forward_same : (sources : List (List ℕ)) (from : ℕ) (xs : List ℕ) (i : ℕ) (list : List ℕ) → i < length xs →
-    AreForward sources from (take i xs) list → IsStep sources (get_or xs i 0) from →
-    AreForward sources from (take (i + 1) xs) list
-forward_same sources from xs i list inside are there =
-    subst (λ (ys : List ℕ). AreForward sources from ys list) (sym (take_more xs i 0 inside))
-    (forward_skip sources from (take i xs) list (get_or xs i 0) are there)
-
-pub forward_end : (sources : List (List ℕ)) (from : ℕ) (xs : List ℕ) (i : ℕ) (list : List ℕ) → length xs ≤ i →
-    AreForward sources from (take i xs) list → AreForward sources from xs list
-forward_end sources from xs i list end are =
-    subst (λ (ys : List ℕ). AreForward sources from ys list) (take_all i xs end) are
 
 -- The table of the steps from the first positions that are no back arcs.
 pub record IsForwarding (table sources : List (List ℕ)) (done : ℕ) (forward : List (List ℕ)) : Type 0 where
@@ -72,17 +19,19 @@ pub record IsForwarding (table sources : List (List ℕ)) (done : ℕ) (forward 
   pub sound : (from to : ℕ) → IsStep forward from to → IsStep table from to × (IsStep sources to from → ⊥)
   pub whole : (from to : ℕ) → from < done → IsStep table from to → (IsStep sources to from → ⊥) → IsStep forward from to
 
-pub forwarding_more : (table sources : List (List ℕ)) (done : ℕ) (forward : List (List ℕ)) (steps list : List ℕ) →
-    IsForwarding table sources done forward → slice_get table done ≡ Some steps → AreForward sources done steps list →
+-- The steps from one position more. The back arcs from it are read from those that are listed by their headers, turned round.
+pub forwarding_more : (table sources turned : List (List ℕ)) (done : ℕ) (forward : List (List ℕ)) (backs steps list : List ℕ) →
+    IsReverse sources turned → IsForwarding table sources done forward → slice_get turned done ≡ Some backs →
+    slice_get table done ≡ Some steps → AreForward backs steps list →
     IsForwarding table sources (done + 1) (forward ++ list ∷ [])
-forwarding_more table sources done forward steps list ahead there are = record {
+forwarding_more table sources turned done forward backs steps list is ahead away there are = record {
   count = omega (arith, ahead.count, length-append forward (list ∷ []));
   sound = λ from to step. sound_by from to step (place_cases forward list from step.steps step.there);
   whole = λ from to less step free. elim (cases_eq from done) as (λ _. IsStep later from to) [
     | inl e ↦ subst (λ (at : ℕ). IsStep later at to) (sym e)
         (a_step later done to list at_done ((are to).1 (
           step_among table done to steps there (subst (λ (at : ℕ). IsStep table at to) e step),
-          subst (λ (at : ℕ). IsStep sources to at → ⊥) e free,
+          λ c. free (subst (IsStep sources to) (sym e) (is.only done to (a_step turned done to backs away c))),
         )))
     | inr differ ↦ let old : IsStep forward from to = ahead.whole from to (omega (arith, less, differ)) step free in
         a_step later from to old.steps (place_left forward (list ∷ []) from old.steps old.there) old.goes
@@ -101,8 +50,10 @@ forwarding_more table sources done forward steps list ahead there are = record {
     sound_by from to step (inl old) = ahead.sound from to (a_step forward from to step.steps old step.goes)
     sound_by from to step (inr both) =
         let (among, free) = (are to).0 (subst (λ (xs : List ℕ). Contains xs to) (sym both.1) step.goes) in
-        subst (λ (at : ℕ). IsStep table at to × (IsStep sources to at → ⊥)) (sym (both.0 ∙ ahead.count))
-        (a_step table done to steps there among, free)
+        subst (λ (at : ℕ). IsStep table at to × (IsStep sources to at → ⊥)) (sym (both.0 ∙ ahead.count)) (
+          a_step table done to steps there among,
+          λ step. free (step_among turned done to backs away (is.back to done step)),
+        )
 
 pub forwarding_end : (table sources : List (List ℕ)) (done : ℕ) (forward : List (List ℕ)) → done ≡ length table →
     IsForwarding table sources done forward → IsForward table sources forward

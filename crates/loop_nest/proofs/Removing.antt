@@ -5,9 +5,11 @@ use Rattle.std.proofs.lemmas.Bool.{cases_eq}
 use Rattle.loop_nest.specs.Arcs.{AreBacksTo, HaveBacks, IsBack}
 use Rattle.step_table.specs.Numbers.{number_of}
 use Rattle.loop_nest.specs.Ranks.{AreRanks, IsHigh}
-use Rattle.step_table.specs.Table.{IsMet, IsStep}
-use Rattle.step_table.proofs.Meeting.{a_step, step_among}
+use Rattle.step_table.specs.Table.{IsMet, IsReverse, IsStep}
+use Rattle.step_table.proofs.Meeting.{a_step, met_wider, step_among}
 use Rattle.step_table.proofs.Reversing.{from_within}
+use Rattle.step_table.proofs.Ringing.{IsTurned, turned}
+use Rattle.step_table.proofs.Seen.{alone}
 use Rattle.loop_nest.proofs.Choosing.{AreChosen, step_cases, step_new, step_old}
 
 -- A trail without lesser ranks avoids a position with a lesser one.
@@ -26,6 +28,17 @@ pub falling_met : (table : List (List ℕ)) (entry : ℕ) (ranks : List ℕ) (fr
 falling_met table entry ranks from header are step less =
     high_avoids table ranks (number_of ranks from) entry header from less
     (are.high from (from_within table from header step))
+
+-- Where no way from the entry to one of some positions misses the header, none of them is met from the entry without it.
+pub none_met : (table reverse : List (List ℕ)) (positions : List ℕ) (entry header : ℕ) → IsReverse table reverse →
+    (IsMet reverse positions header entry → ⊥) → (x : ℕ) → Contains positions x → IsMet table (entry ∷ []) header x → ⊥
+none_met table reverse positions entry header is unpassed x among met =
+    unpassed (passed (turned table reverse (entry ∷ []) header x is.back met))
+  where
+    passed : IsTurned reverse (entry ∷ []) header x → IsMet reverse positions header entry
+    passed t =
+        met_wider reverse (x ∷ []) positions header entry (λ s c. subst (Contains positions) (alone x s c) among)
+        (subst (IsMet reverse (x ∷ []) header) (sym (alone entry t.start t.among)) t.met)
 
 -- The arcs to one header more.
 pub backs_more : (table steps : List (List ℕ)) (entry done : ℕ) (sources : List (List ℕ)) (from list : List ℕ) →

@@ -1,6 +1,6 @@
 -- Steps that don't fall in rank: all back arcs are among them, and they are the back arcs where no header is passed by.
 use Rattle.std.proofs.Common.{◌≡◌, ℕ, ◌+◌, ◌<◌, ◌≤◌, List, [], ◌∷◌, ◌++◌, length, length-append, sym, subst, ◌∙◌, Some, arith, inl, inr}
-use Rattle.std.specs.Prelude.{Contains, slice_get}
+use Rattle.std.specs.Prelude.{slice_get}
 use Rattle.std.proofs.lemmas.Bool.{cases_eq, cases_lt}
 use Rattle.std.proofs.lemmas.Option.{same_Some}
 use Rattle.loop_nest.specs.Arcs.{AreBacks, AreKept, AreRetreats, AreRetreatsTo, Crosses, HaveBacks, IsPassedBy}
@@ -10,12 +10,10 @@ use Rattle.loop_nest.specs.Ranks.{AreRanks}
 use Rattle.step_table.specs.Numbers.{number_of}
 use Rattle.step_table.specs.Table.{IsMet, IsReverse, IsStep, IsWithin}
 use Rattle.step_table.proofs.Meeting.{a_step, step_among}
-use Rattle.step_table.proofs.Reversing.{from_within, step_within, within_by}
-use Rattle.step_table.proofs.Meeting.{met_wider}
+use Rattle.step_table.proofs.Reversing.{from_within, reverse_within, step_within, within_by}
 use Rattle.step_table.proofs.Ringing.{IsTurned, turned}
-use Rattle.step_table.proofs.Seen.{alone}
 use Rattle.loop_nest.proofs.Choosing.{AreChosen, step_cases, step_new, step_old}
-use Rattle.loop_nest.proofs.Removing.{falling_met}
+use Rattle.loop_nest.proofs.Removing.{falling_met, none_met}
 
 -- The steps to one header more.
 pub retreats_more : (reverse : List (List ℕ)) (ranks : List ℕ) (done : ℕ) (sources : List (List ℕ)) (before list : List ℕ) →
@@ -71,20 +69,12 @@ pub kept_all : (table reverse : List (List ℕ)) (entry : ℕ) (ranks : List ℕ
     ((header : ℕ) → IsPassedBy reverse steps entry header → ⊥) → AreKept table entry ranks
 kept_all table reverse entry ranks steps is are unpassed from header step retreats = record {
   goes = step;
-  behind = λ met. unpassed header (passed (turned table reverse (entry ∷ []) header from is.back met));
+  behind = none_met table reverse listed.steps entry header is
+      (λ met. unpassed header (record { from = listed.steps; there = listed.there; met = met })) from listed.goes;
 }
   where
     listed : IsStep steps header from
     listed = are.whole from header (from_within reverse header from (is.back from header step)) (is.back from header step) retreats
-
-    passed : IsTurned reverse (entry ∷ []) header from → IsPassedBy reverse steps entry header
-    passed t = record {
-      from = listed.steps;
-      there = listed.there;
-      met = met_wider reverse (from ∷ []) listed.steps header entry
-          (λ s c. subst (Contains listed.steps) (alone from s c) listed.goes)
-          (subst (IsMet reverse (from ∷ []) header) (sym (alone entry t.start t.among)) t.met);
-    }
 
 pub backs_all : (table reverse : List (List ℕ)) (entry : ℕ) (ranks : List ℕ) (steps : List (List ℕ)) →
     AreRanks table entry ranks → IsReverse table reverse → AreRetreats reverse ranks steps → AreKept table entry ranks →
@@ -139,6 +129,8 @@ crossed_plan plan ranks steps within begins ranked listed is are (header, passed
       within = within;
       begins = begins;
       ranked = ranked;
+      reversed = is;
+      behind = reverse_within plan.table.items plan.reverse.items is;
       listed = listed;
       backs = have_backs plan.table.items plan.reverse.items plan.entry ranks steps ranked is are;
       from = from;

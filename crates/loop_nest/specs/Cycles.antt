@@ -10,10 +10,9 @@ pub record IsForward (table sources forward : List (List ℕ)) : Type 0 where
   pub apart : (from to : ℕ) → IsStep forward from to → IsStep sources to from → ⊥
   pub whole : (from to : ℕ) → IsStep table from to → (IsStep sources to from → ⊥) → IsStep forward from to
 
--- Of the steps from a position, those that are no back arcs.
-abbrev pub AreForward : (sources : List (List ℕ)) → (from : ℕ) → (steps list : List ℕ) → Type 0
-AreForward sources from steps list =
-    (to : ℕ) → Contains list to ↔ (Contains steps to × (IsStep sources to from → ⊥))
+-- Of the steps from a position, those that are no back arcs from it.
+abbrev pub AreForward : (backs steps list : List ℕ) → Type 0
+AreForward backs steps list = (to : ℕ) → Contains list to ↔ (Contains steps to × (Contains backs to → ⊥))
 
 -- The least position of a cycle of steps that are no back arcs, or none.
 pub record IsFirstIrregular (table sources : List (List ℕ)) (found : Option ℕ) : Type 0 where

@@ -37,6 +37,8 @@ pub record IsCrossed (plan : Plan) (steps : List (List ℕ)) : Type 0 where
   pub within : IsWithin plan.table.items
   pub begins : plan.entry < length plan.table.items
   pub ranked : AreRanks plan.table.items plan.entry ranks
+  pub reversed : IsReverse plan.table.items plan.reverse.items
+  pub behind : IsWithin plan.reverse.items
   pub listed : IsWithin steps
   pub backs : HaveBacks plan.table.items plan.entry steps
   pub from : ℕ

@@ -99,7 +99,7 @@ fn nests_in(
 /// header of a loop without a bound. The records are looked at once. A function takes time in proportion to
 /// its units and arcs and to the bodies of its loops, thus to its units times the depth of its loops, but
 /// for sorting and for looking up addresses. Only where some unit of it lies on a cycle that has no back arc,
-/// it takes time in proportion to its units times its arcs at most.
+/// it is searched once more for each header that a way into its cycle passes by.
 pub fn find_loops(alloc: Global, graphs: &Graphs, image: &Image) -> Result<Nests, CodeFault>
     requires graphs { (entry : ℕ) × AreGraphs image.now entry graphs.now × HasNoFault image.now entry }
     ensures nests { IfOk result (AreNests image.now graphs.now) }

@@ -95,7 +95,7 @@ fn irregular_of(alloc: Global, plan: &Plan, steps: &[List<usize>]) -> Result<usi
     requires { IsCrossed plan.now steps.now }
     ensures { IfOk result (IsIrregularAt plan.now) }
 {
-    let backs = backs_of(alloc, &plan.table, steps, plan.entry)?;
+    let backs = backs_of(alloc, &plan.table, &plan.reverse, steps, plan.entry)?;
     match first_irregular(alloc, &plan.table, &backs)? {
         Some(position) => Ok(position),
         None => unreachable!(),

@@ -50,8 +50,8 @@ pub fn retreats_of(
     Ok(sources)
 }
 
-/// Whether a way from the entry to one of the sources misses the header.
-fn is_passed(
+/// Whether a way from the entry to one of the sources misses the header; no position is marked.
+pub fn is_passed(
     alloc: Global,
     reverse: &[List<usize>],
     sources: &[usize],
