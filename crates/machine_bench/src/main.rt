@@ -2,7 +2,7 @@
 //! the cycles: `bench/machine.sh` times it.
 #![tactic(auto)]
 
-ghost use Rattle.std.specs.Prelude.{◌≤◌, IfOk, length};
+ghost use Rattle.std.specs.Prelude.{◌≡◌, ◌<◌, ◌≤◌, IfOk, length};
 
 use anyhow::{Result, bail};
 use cache_config::Profile;
@@ -94,19 +94,23 @@ fn file_bytes(alloc: Global) -> Result<Vec<u8>, AllocError>
     Ok(bytes)
 }
 
-/// Does so many units, or fewer where the loop ends; how many were done.
+ghost use Rattle.machine_bench.specs.Units.{after, Ends};
+
+/// Does so many units one after the other, or fewer where the machine ends; how many were done.
 fn run(machine: &mut Machine, units: u64) -> u64
-    ensures { result ≤ units }
+    ensures few { result ≤ units }
+    ensures done { machine.new ≡ after result machine.old }
+    ensures ends { result < units → Ends result machine.old }
 {
-    let mut done = 0;
     for unit in 0..units {
         if machine.cycles() >= 1 << 61 {
-            return done;
+            return unit;
         }
         match machine.step() {
-            Outcome::Going => done = unit + 1,
-            Outcome::Returned | Outcome::Trap { .. } => return done,
+            Outcome::Going => continue,
+            Outcome::Returned => return unit + 1,
+            Outcome::Trap { .. } => return unit,
         }
     }
-    done
+    units
 }
