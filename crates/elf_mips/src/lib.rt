@@ -26,10 +26,4 @@ pub use segment::{Segment, Start};
 pub use symbol::Symbol;
 
 #[cfg(test)]
-mod record_tests;
-#[cfg(test)]
-mod symbol_tests;
-#[cfg(test)]
-mod test_files;
-#[cfg(test)]
 mod tests;

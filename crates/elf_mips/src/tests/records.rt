@@ -1,8 +1,6 @@
 //! Sections and records of small files, with each way in which they are bad.
 
-use crate::test_files::{
-    NAMES, RECORDS, SHSTRTAB, fault_in, file_of, loop_file, put, read, section,
-};
+use super::{NAMES, RECORDS, SHSTRTAB, fault_in, file_of, loop_file, put, read, section};
 use crate::{ElfKind, Mark};
 use std::alloc::Global;
 use std::test::Fail;

@@ -1,6 +1,6 @@
 //! Symbols of small files.
 
-use crate::test_files::{SHSTRTAB, fault_in, file_of, read, section};
+use super::{SHSTRTAB, fault_in, file_of, read, section};
 use crate::{ElfKind, Symbol};
 use std::alloc::Global;
 use std::test::Fail;
