@@ -1,23 +1,24 @@
--- What instructions cost under a profile.
-use Rattle.std.specs.Prelude.{ℕ, ◌+◌, Option, None, Some, if◌then◌else◌}
+-- What instructions and accesses cost under a profile.
+use Rattle.std.specs.Prelude.{ℕ, zero, suc, List, [], ◌∷◌, slice_index_or}
 use Rattle.cache_config.specs.declared.profile.Cycles.{Cycles}
 use Rattle.cache_config.specs.declared.profile.Profile.{Profile}
 use Rattle.mips_decode.specs.declared.columns.CostClass.{CostClass}
 use Rattle.mips_decode.specs.declared.columns.CostClass.TheVariants.{Alu, Shift, Mult, Div, Move, Load, Store, Branch, Jump, Stop}
 use Rattle.mips_decode.specs.declared.instr.Instr.{Instr}
-use Rattle.mips_decode.specs.declared.step.Touched.{Touched}
+use Rattle.mips_decode.specs.declared.step.AccessKind.{AccessKind}
+use Rattle.mips_decode.specs.declared.step.AccessKind.TheVariants as access
 use Rattle.mips_decode.specs.Columns.{class_of}
 
--- What units cost: the cycles of each class, and the latencies of memory and of a store.
+-- What units cost: the cycles of each class, the latency of a store, and the latency of memory.
 pub record Costs : Type 0 where
   pub cycles : Cycles
-  pub memory : ℕ
   pub store : ℕ
+  pub memory : ℕ
 
 abbrev pub costs_of : Profile → Costs
-costs_of profile = record { cycles = profile.cycles; memory = profile.memory; store = profile.store }
+costs_of profile = record { cycles = profile.cycles; store = profile.store; memory = profile.memory }
 
--- The cycles of an instruction's class.
+-- The cycles of a class.
 abbrev pub cycles_of : Cycles → CostClass → ℕ
 cycles_of cycles Alu = cycles.alu
 cycles_of cycles Shift = cycles.shift
@@ -30,11 +31,17 @@ cycles_of cycles Branch = cycles.branch
 cycles_of cycles Jump = cycles.jump
 cycles_of cycles Stop = cycles.stop
 
--- An instruction costs its class's cycles, and the latency of memory for its fetch.
-abbrev pub cost_of : Costs → Instr → ℕ
-cost_of costs instr = cycles_of costs.cycles (class_of instr) + costs.memory
+-- An instruction takes the cycles of its class.
+abbrev pub class_cost : Costs → Instr → ℕ
+class_cost costs instr = cycles_of costs.cycles (class_of instr)
 
--- A load costs the latency of memory, a store that of a store.
-abbrev pub access_cost : Costs → Option Touched → ℕ
-access_cost costs None = 0
-access_cost costs (Some access) = if access.store then costs.store else costs.memory
+-- The latencies of the stages that an access of a kind may visit, in order. The last stage is memory; without caches
+-- it is the only one. A store visits no stage.
+abbrev pub stages_of : Costs → AccessKind → List ℕ
+stages_of costs access.Store = []
+stages_of costs kind = costs.memory ∷ []
+
+-- The latency of a stage, from 1; 0 where the chain has no such stage.
+abbrev pub stage_latency : Costs → AccessKind → (stage : ℕ) → ℕ
+stage_latency costs kind zero = 0
+stage_latency costs kind (suc before) = slice_index_or (stages_of costs kind) before 0

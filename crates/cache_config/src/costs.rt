@@ -1,31 +1,33 @@
-//! What instructions cost under a profile.
+//! What instructions and accesses cost under a profile.
 
-ghost use Rattle.std.specs.Prelude.{◌≡◌, ◌+◌, ◌≤◌};
+ghost use Rattle.std.specs.Prelude.{◌≡◌, ◌≤◌};
 ghost use Rattle.mips_decode.specs.Columns.{class_of};
 ghost use Rattle.mips_decode.specs.Table.{IsValid};
-ghost use Rattle.cache_config.specs.Instructions.{access_cost, cost_of, cycles_of};
+ghost use Rattle.cache_config.specs.Instructions.{class_cost, cycles_of, stage_latency};
+ghost use Rattle.cache_config.specs.Limits.{most_cycles};
 
 use crate::profile::{Cycles, Profile};
-use mips_decode::{CostClass, Instr, Touched};
+use mips_decode::{AccessKind, CostClass, Instr};
 use std::marker::Model;
 
-/// The cycles of each class of instructions, and the latencies of memory and of a store.
+/// The cycles of each class of instructions, and the latencies of a store and of memory.
 #[derive(Debug, Drop)]
 pub struct Costs {
     cycles: Cycles,
-    memory: u64,
     store: u64,
+    memory: u64,
 }
 
 impl Model for Costs {
     ghost use Rattle.std.specs.Prelude.{◌≤◌};
     ghost use Rattle.cache_config.specs.Instructions.{Costs};
+    ghost use Rattle.cache_config.specs.Limits.{most_cycles};
 
     ghost Value = { Costs };
 
-    ghost view = { λ c. record { cycles = c.cycles; memory = c.memory; store = c.store } };
+    ghost view = { λ c. record { cycles = c.cycles; store = c.store; memory = c.memory } };
 
-    ghost invariant = { λ c. (c.memory ≤ 1000000) × (c.store ≤ 1000000) };
+    ghost invariant = { λ c. (c.store ≤ most_cycles) × (c.memory ≤ most_cycles) };
 }
 
 impl Costs {
@@ -37,34 +39,38 @@ impl Costs {
     {
         Costs {
             cycles: profile.cycles,
-            memory: profile.memory,
             store: profile.store,
+            memory: profile.memory,
         }
     }
 
-    /// The cycles of an instruction without its load or store: its class's and its fetch's.
+    /// The cycles of an instruction's class.
     pub fn instruction(&self, instr: &Instr) -> u64
         requires { IsValid instr.now }
-        ensures value { result ≡ cost_of self.now instr.now }
-        ensures small { result ≤ 2000000 }
+        ensures value { result ≡ class_cost self.now instr.now }
+        ensures small { result ≤ most_cycles }
     {
-        class_cycles(&self.cycles, mips_decode::cost_class(instr)) + self.memory
+        class_cycles(&self.cycles, mips_decode::cost_class(instr))
     }
 
-    /// The latency of a unit's load or store; 0 where it makes none.
-    pub fn access(&self, access: &Option<Touched>) -> u64
-        ensures value { result ≡ access_cost self.now access.now }
-        ensures small { result ≤ 1000000 }
+    /// The latency of a store, in cycles. It goes through no chain.
+    pub fn store(&self) -> u64
+        ensures value { result ≡ self.now.store }
+        ensures small { result ≤ most_cycles }
     {
-        match access {
-            None => 0,
-            Some(access) => {
-                if access.store {
-                    self.store
-                } else {
-                    self.memory
-                }
-            }
+        self.store
+    }
+
+    /// The latency of a stage of the chain of an access, in cycles. Stages count from 1, and the last one is memory;
+    /// 0 where the chain has no such stage.
+    pub fn stage(&self, kind: AccessKind, stage: u32) -> u64
+        ensures value { result ≡ stage_latency self.now kind stage }
+        ensures small { result ≤ most_cycles }
+    {
+        match kind {
+            AccessKind::Store => 0,
+            _ if stage == 1 => self.memory,
+            _ => 0,
         }
     }
 }
@@ -72,7 +78,7 @@ impl Costs {
 /// The cycles of a class.
 fn class_cycles(cycles: &Cycles, class: CostClass) -> u64
     ensures value { result ≡ cycles_of cycles.now class }
-    ensures small { result ≤ 1000000 }
+    ensures small { result ≤ most_cycles }
 {
     match class {
         CostClass::Alu => cycles.alu,

@@ -67,5 +67,3 @@ pub mod NetOnce
 pub mod GraphCalls
 pub mod SizesOnce
 pub mod SameSizes
--- Runs go along paths.
-pub mod RunPaths

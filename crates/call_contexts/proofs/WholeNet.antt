@@ -6,13 +6,12 @@ use Rattle.flow_net.specs.declared.net.Net.{Net}
 use Rattle.flow_net.specs.declared.net.Place.{Place}
 use Rattle.net_model.specs.Accesses.{accesses_from}
 use Rattle.net_model.specs.Contexts.{AreContexts}
-use Rattle.net_model.specs.Net.{IsNet}
+use Rattle.net_model.specs.Net.{HasUnits, IsNet}
 use Rattle.net_model.specs.Instances.{HasInstances}
 use Rattle.net_model.specs.Targets.{unit_at}
 use Rattle.net_model.specs.declared.unit.Content.TheVariants.{Unit as Stands}
 use Rattle.unit_graph.specs.declared.graph.Graphs.{Graphs}
 use Rattle.call_contexts.specs.Arcs.{AreAllArcs}
-use Rattle.call_contexts.specs.Programs.{HasUnits}
 use Rattle.call_contexts.specs.Spots.{IsLaidProgram}
 use Rattle.call_contexts.specs.declared.layout.Layout.{Layout}
 use Rattle.call_contexts.proofs.HasItsArcs.{has-arcs}

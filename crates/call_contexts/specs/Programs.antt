@@ -1,15 +1,10 @@
 -- Programs that have a net, and what is answered of the others.
-use Rattle.std.specs.Prelude.{◌≡◌, ℕ, ◌<◌, ◌^◌, ◌⊎◌, min, All}
+use Rattle.std.specs.Prelude.{◌≡◌, ℕ, ◌<◌, ◌^◌, ◌⊎◌, min}
 use Rattle.elf_mips.specs.declared.image.Image.{Image}
-use Rattle.flow_net.specs.declared.net.Net.{Net}
-use Rattle.flow_net.specs.declared.net.Place.{Place}
 use Rattle.loop_nest.specs.Programs.{AreNests}
 use Rattle.loop_nest.specs.declared.nest.Nests.{Nests}
 use Rattle.net_model.specs.Faults.{HasNoFault}
 use Rattle.net_model.specs.Functions.{CanReturn}
-use Rattle.net_model.specs.Targets.{unit_at}
-use Rattle.net_model.specs.declared.unit.CodeUnit.{CodeUnit}
-use Rattle.net_model.specs.declared.unit.Content.TheVariants.{Unit as Stands}
 use Rattle.unit_graph.specs.Graphs.{AreGraphs}
 use Rattle.unit_graph.specs.declared.graph.Graphs.{Graphs}
 use Rattle.call_contexts.specs.Sizes.{AreSizes, most_contexts, most_places}
@@ -21,14 +16,6 @@ pub record IsProgram (image : Image) (entry : ℕ) (graphs : Graphs) (nests : Ne
   pub graphs_are : AreGraphs image entry graphs
   pub nests_are : AreNests image graphs nests
   pub faultless : HasNoFault image entry
-
--- A unit stands at the address of each place.
-pub record IsUnitOf (image : Image) (place : Place) : Type 0 where
-  pub unit : CodeUnit
-  pub stands : unit_at image place.address ≡ Stands unit
-
-abbrev pub HasUnits : Image → Net → Type 0
-HasUnits image net = All (IsUnitOf image) net.places
 
 -- No unit that the entry function reaches returns.
 abbrev pub HasNoReturn : Image → ℕ → Type 0

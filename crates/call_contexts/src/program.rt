@@ -7,10 +7,10 @@ ghost use Rattle.flow_net.specs.Nested.{IsNested};
 ghost use Rattle.flow_net.specs.declared.net.Context.{Context};
 ghost use Rattle.mips_decode.specs.State.{State};
 ghost use Rattle.net_model.specs.Functions.{CanReturn};
-ghost use Rattle.net_model.specs.Net.{IsNet};
+ghost use Rattle.net_model.specs.Net.{HasUnits, IsNet};
 ghost use Rattle.net_model.specs.Runs.{GoesAlong, IsKeptRun};
 ghost use Rattle.call_contexts.specs.Instances.{HasLayout};
-ghost use Rattle.call_contexts.specs.Programs.{HasUnits, IsProgram, TellsFault};
+ghost use Rattle.call_contexts.specs.Programs.{IsProgram, TellsFault};
 ghost use Rattle.call_contexts.specs.Sizes.{AreSizes, most_contexts, most_places};
 
 use crate::accesses::accesses_of;

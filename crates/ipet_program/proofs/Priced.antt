@@ -14,10 +14,11 @@ use Rattle.ipet_program.proofs.Numbered.{item-read}
 -- The place that a loop reads has the price of its number.
 pub price-read : (profile : Profile) (image : Image) (net : Net) (places : List Place) (index : ℕ) (d : Place)
     (costs : Costs) (price : ℕ) → places ≡ net.places → index < length places → costs ≡ costs_of profile →
-    price ≡ content_cost costs (content_at image (get_or places index d).address) →
+    price ≡ content_cost costs (index + 1) (content_at image (get_or places index d).address) (get_or places index d).address →
     price ≡ place_price profile image net (index + 1)
 price-read profile image net places index d costs price same within of_profile value =
     let there : item_at (index + 1) net.places ≡ Some (get_or places index d) =
     item-read net.places places index d (sym same) within in
-    value ∙ ap (λ costs. content_cost costs (content_at image (get_or places index d).address)) of_profile
-    ∙ ap (price_at profile image) (sym there)
+    let place : Place = get_or places index d in
+    value ∙ ap (λ costs. content_cost costs (index + 1) (content_at image place.address) place.address) of_profile
+    ∙ ap (price_at profile image (index + 1)) (sym there)

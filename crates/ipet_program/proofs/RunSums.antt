@@ -11,7 +11,7 @@ use Rattle.flow_net.specs.Paths.{IsPath, IsRunPath}
 use Rattle.flow_net.specs.declared.net.NetArc.{NetArc}
 use Rattle.flow_net.proofs.Numbers.{item_at-within}
 use Rattle.net_model.specs.Moments.{arcs_of, Moment}
-use Rattle.net_model.specs.Moments.Moment.{Takes}
+use Rattle.net_model.specs.Moments.Moment.{Makes, Takes}
 use Rattle.ipet_program.specs.Counts.{counts_for, counts_of}
 use Rattle.ipet_program.specs.Leaves.{total}
 use Rattle.ipet_program.proofs.Whole.{mul-sum}
@@ -29,6 +29,9 @@ counts_of-times (Takes arc ∷ more) column =
     sum_by-cons (λ (m : Moment). cond (counts_for column m) 1 0) (Takes arc) more
     ∙ ap (λ (n : ℕ). cond (arc == column) 1 0 + n) (counts_of-times more column)
     ∙ sym (sum_by-cons (λ (number : ℕ). cond (number == column) 1 0) arc (arcs_of more))
+counts_of-times (Makes access address caches hit ∷ more) column =
+    sum_by-cons (λ (m : Moment). cond (counts_for column m) 1 0) (Makes access address caches hit) more
+    ∙ counts_of-times more column
 
 own : (number : ℕ) → ◌≡◌ {A = ℕ} (cond (number == number) 1 0) 1
 own number = grind (arith, nat_tests)

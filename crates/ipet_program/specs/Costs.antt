@@ -1,35 +1,58 @@
--- The cycles of a unit.
-use Rattle.std.specs.Prelude.{ℕ, ◌+◌, Option, Some, None}
+-- The cycles of a unit that each visit of it takes.
+use Rattle.std.specs.Prelude.{ℕ, ◌+◌, ◌*◌, List, Option, Some, None, sum_by}
+use Rattle.cache_config.specs.Instructions.{Costs, class_cost, stage_latency}
+use Rattle.cache_config.specs.Limits.{most_cycles}
+use Rattle.flow_net.specs.declared.net.Access.{Access}
 use Rattle.mips_decode.specs.declared.instr.Instr.{Instr}
 use Rattle.mips_decode.specs.declared.instr.Instr.TheVariants.{Load, Store}
-use Rattle.cache_config.specs.Instructions.{Costs, cost_of}
+use Rattle.mips_decode.specs.declared.step.AccessKind.{AccessKind}
+use Rattle.mips_decode.specs.declared.step.AccessKind.TheVariants as kind
+use Rattle.net_model.specs.Accesses.{kind_of, unit_accesses}
 use Rattle.net_model.specs.declared.unit.CodeUnit.{CodeUnit}
 use Rattle.net_model.specs.declared.unit.Content.{Content}
 use Rattle.net_model.specs.declared.unit.Content.TheVariants.{Unit as Stands, Fault}
 
--- A load costs the latency of memory, a store that of a store.
-abbrev pub touch_cost : Costs → Instr → ℕ
-touch_cost costs (Load op rt base offset) = costs.memory
-touch_cost costs (Store op rt base offset) = costs.store
-touch_cost costs instr = 0
+-- The latency of a store, where the instruction is one.
+abbrev pub store_latency : Costs → Instr → ℕ
+store_latency costs (Store op rt base offset) = costs.store
+store_latency costs instr = 0
 
--- An instruction costs its class's cycles, its fetch, and its load or store.
-abbrev pub instr_cost : Costs → Instr → ℕ
-instr_cost costs instr = cost_of costs instr + touch_cost costs instr
+-- The cycles of an instruction by itself: those of its class, and the latency of its store.
+abbrev pub own_cost : Costs → Instr → ℕ
+own_cost costs instr = class_cost costs instr + store_latency costs instr
 
 abbrev pub slot_cost : Costs → Option Instr → ℕ
 slot_cost costs None = 0
-slot_cost costs (Some slot) = instr_cost costs slot
+slot_cost costs (Some slot) = own_cost costs slot
 
--- The cycles of a unit, whatever it finds: those of its instruction and of its slot.
-abbrev pub unit_cost : Costs → CodeUnit → ℕ
-unit_cost costs unit = instr_cost costs unit.instr + slot_cost costs unit.slot
+-- An access visits stage 1 of its chain whenever it is made.
+abbrev pub first_stage : Costs → Access → ℕ
+first_stage costs access = stage_latency costs (kind_of access.role) 1
+
+abbrev pub first_stages : Costs → List Access → ℕ
+first_stages costs accesses = sum_by (first_stage costs) accesses
+
+-- The cycles of a unit at a place, whatever it finds: those of its instruction and of its slot by themselves, and the
+-- latencies of stage 1 of its accesses.
+abbrev pub unit_cost : Costs → (number : ℕ) → CodeUnit → (address : ℕ) → ℕ
+unit_cost costs number unit address =
+    own_cost costs unit.instr + slot_cost costs unit.slot + first_stages costs (unit_accesses number unit address)
 
 -- Where no unit stands there is nothing to do.
-abbrev pub content_cost : Costs → Content → ℕ
-content_cost costs (Stands unit) = unit_cost costs unit
-content_cost costs (Fault kind place) = 0
+abbrev pub content_cost : Costs → (number : ℕ) → Content → (address : ℕ) → ℕ
+content_cost costs number (Stands unit) address = unit_cost costs number unit address
+content_cost costs number (Fault kind place) address = 0
+
+-- The same by its instructions: what the load or store of an instruction costs, and what an instruction that is
+-- fetched in this way costs.
+abbrev pub touch_cost : Costs → Instr → ℕ
+touch_cost costs (Load op rt base offset) = stage_latency costs kind.Load 1
+touch_cost costs (Store op rt base offset) = costs.store
+touch_cost costs instr = 0
+
+abbrev pub instr_cost : Costs → AccessKind → Instr → ℕ
+instr_cost costs fetch instr = class_cost costs instr + (stage_latency costs fetch 1 + touch_cost costs instr)
 
 -- The most cycles of a unit: two classes, two fetches, and a load or store.
 abbrev pub price_limit : ℕ
-price_limit = 5000000
+price_limit = 5 * most_cycles

@@ -3,7 +3,7 @@ use Rattle.std.specs.Prelude.{◌≡◌, ℕ, suc, ◌<◌, ◌≤◌, ◌==◌,
 use Rattle.flow_net.specs.Numbers.{item_at}
 use Rattle.flow_net.specs.declared.net.NetArc.{NetArc}
 use Rattle.net_model.specs.Moments.{arcs_of, Moment}
-use Rattle.net_model.specs.Moments.Moment.{Takes}
+use Rattle.net_model.specs.Moments.Moment.{Makes, Takes}
 use Rattle.ipet_program.specs.declared.certificate.Count.{Count}
 use Rattle.ipet_program.specs.declared.program.Program.{Program}
 use Rattle.ipet_program.specs.declared.program.Row.{Row}
@@ -71,9 +71,11 @@ path_cost price arcs numbers = sum_by (λ number. arc_cost price (item_at number
 abbrev pub cycles_along : (ℕ → ℕ) → List NetArc → List Moment → ℕ
 cycles_along price arcs moments = path_cost price arcs (arcs_of moments)
 
--- Whether what the run does counts for a column: it takes the arc of that number.
+-- Whether what the run does counts for a column: it takes the arc of that number. An access counts for no column: its
+-- first stage has its latency in the value of the arc to its place, and there is no further one.
 abbrev pub counts_for : ℕ → Moment → Bool
 counts_for column (Takes arc) = arc == column
+counts_for column (Makes access address caches hit) = false
 
 -- The counts of a run: for each column, how often it counts. They are feasible for the program of the net, and
 -- their value is the run's cycles (`run-counts` of proofs/RunCounts.antt).

@@ -50,13 +50,14 @@ pub record IsProgramOf (net : Net) (price : ℕ → ℕ) (program : Program) : T
   pub costly : (place : ℕ) → IsNumberOf net.places place → 1 ≤ price place
   pub low : crude_of net holds price ≤ crude_limit
 
--- The price of a place is the cycles of its unit.
-abbrev pub price_at : Profile → Image → Option Place → ℕ
-price_at profile image None = 0
-price_at profile image (Some place) = content_cost (costs_of profile) (content_at image place.address)
+-- The price of a place is the cycles that each visit of its unit takes.
+abbrev pub price_at : Profile → Image → (number : ℕ) → Option Place → ℕ
+price_at profile image number None = 0
+price_at profile image number (Some place) =
+    content_cost (costs_of profile) number (content_at image place.address) place.address
 
 abbrev pub place_price : Profile → Image → Net → ℕ → ℕ
-place_price profile image net number = price_at profile image (item_at number net.places)
+place_price profile image net number = price_at profile image number (item_at number net.places)
 
 -- A unit of the image stands at an address, and its words have no fault.
 pub record IsUnitAt (image : Image) (address : ℕ) : Type 0 where

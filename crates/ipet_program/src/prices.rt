@@ -1,6 +1,6 @@
 //! What the places of a net cost.
 
-ghost use Rattle.std.specs.Prelude.{◌≡◌, All, IfOk, length};
+ghost use Rattle.std.specs.Prelude.{◌≡◌, ℕ, All, IfOk, length};
 ghost use Rattle.net_model.specs.Units.{content_at};
 ghost use Rattle.ipet_program.specs.Costs.{content_cost};
 ghost use Rattle.ipet_program.specs.Programs.{FitsImage, IsUnitAt, place_price};
@@ -18,7 +18,7 @@ use std::alloc::{AllocError, Global};
 /// The cycles of the unit at an address where one stands.
 fn price_at(image: &Image, costs: &Costs, address: u32) -> u64
     requires { IsUnitAt image.now address }
-    ensures value { result ≡ content_cost costs.now (content_at image.now address) }
+    ensures value { (number : ℕ) → result ≡ content_cost costs.now number (content_at image.now address) address }
     ensures priced { IsPrice result }
 {
     match content_at(image, address) {

@@ -1,8 +1,8 @@
--- The open calls of a run, and the runs that return to their callers.
-use Rattle.std.specs.Prelude.{◌≡◌, ℕ, ◌+◌, List, [], ◌∷◌, drop, Option}
-use Rattle.mips_decode.specs.State.{State, return_address}
+-- The open calls of a run, and the units that return to their callers.
+use Rattle.std.specs.Prelude.{◌≡◌, ℕ, ◌+◌, List, [], ◌∷◌, drop}
+use Rattle.mips_decode.specs.State.{return_address}
 use Rattle.mips_decode.specs.Transfer.{Call, Linking, Straight, Calls, Returns}
-use Rattle.mips_decode.specs.Step.{Stepped, Went, Returned, Trapped, value_step}
+use Rattle.mips_decode.specs.Step.{Stepped, Went, Returned, Trapped}
 
 -- The open calls after a unit, the innermost first: a call adds one, a return takes the innermost away.
 abbrev pub calls_after_link : List Call → Linking → List Call
@@ -30,10 +30,3 @@ abbrev pub ReturnsToCaller : List Call → Stepped → Type 0
 ReturnsToCaller calls (Went done t) = GoesBack calls done.link t.pc
 ReturnsToCaller calls (Returned done t) = GoesBack calls done.link t.pc
 ReturnsToCaller calls (Trapped kind address) = Unit {0}
-
--- Each unit of the run returns to its caller, with these calls open at its first state.
-abbrev pub ReturnsToCallers : (ℕ → Option ℕ) → List Call → State → List State → Type 0
-ReturnsToCallers code calls s [] = Unit {0}
-ReturnsToCallers code calls s (t ∷ later) =
-    ReturnsToCaller calls (value_step code s)
-    × ReturnsToCallers code (calls_after calls (value_step code s)) t later

@@ -6,8 +6,10 @@ pub mod Memory
 pub mod Effect
 pub mod Transfer
 pub mod Step
+pub mod Accesses
 pub mod Start
 pub mod Run
 pub mod Calls
 pub mod Records
+pub mod Units
 pub mod Columns

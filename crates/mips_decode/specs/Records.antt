@@ -1,9 +1,8 @@
--- The runs whose indirect transfers go to recorded targets.
-use Rattle.std.specs.Prelude.{◌≡◌, ℕ, ◌==◌, Bool, true, false, not, List, [], ◌∷◌, Contains, Option}
+-- The units whose indirect transfers go to recorded targets.
+use Rattle.std.specs.Prelude.{◌≡◌, ℕ, ◌==◌, Bool, true, false, not, List, [], ◌∷◌, Contains}
 use Rattle.mips_decode.specs.declared.instr.Instr.{Instr}
 use Rattle.mips_decode.specs.declared.instr.Instr.TheVariants.{JumpReg, JumpLink}
-use Rattle.mips_decode.specs.State.{State}
-use Rattle.mips_decode.specs.Step.{Stepped, Went, Returned, Trapped, value_step}
+use Rattle.mips_decode.specs.Step.{Stepped, Went, Returned, Trapped}
 
 -- JALR, and JR of another register than 31, go to one of the targets recorded for them.
 -- A record at `jr $31` names nothing.
@@ -24,9 +23,3 @@ abbrev pub KeepsTargets : List ℕ → Stepped → Type 0
 KeepsTargets targets (Went done t) = GoToRecorded targets done.instructions t.pc
 KeepsTargets targets (Returned done t) = GoToRecorded targets done.instructions t.pc
 KeepsTargets targets (Trapped kind address) = Unit {0}
-
--- Each unit of the run that is done goes to a target recorded at its address, where it needs one.
-abbrev pub KeepTargets : (ℕ → List ℕ) → (ℕ → Option ℕ) → State → List State → Type 0
-KeepTargets targets code s [] = Unit {0}
-KeepTargets targets code s (t ∷ later) =
-    KeepsTargets (targets s.pc) (value_step code s) × KeepTargets targets code t later

@@ -12,6 +12,7 @@ mod encoder;
 mod encodings;
 mod fields;
 mod instr;
+mod laws;
 mod memory;
 mod numbers;
 mod step;
@@ -21,11 +22,12 @@ pub use columns::{CostClass, cost_class, reads, writes};
 pub use decoder::decode;
 pub use effect::apply;
 pub use encoder::encode;
+pub use laws::units_grow;
 pub use instr::{
     BranchOp, HiLoOp, ImmOp, Instr, LoadOp, MulOp, Op3, Reg, ShiftOp, StopOp, StoreOp,
 };
 pub use memory::{
     address_of, load_touched, load_value, number_at, put_number, store_touched, store_value,
 };
-pub use step::{Regs, Touched, TrapKind};
+pub use step::{AccessKind, Regs, Touched, TrapKind};
 pub use transfer::{LinkKind, Way, branch_links, branch_target, decide, is_transfer, jump_target};

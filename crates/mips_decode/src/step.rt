@@ -30,6 +30,19 @@ pub struct Touched {
     pub store: bool,
 }
 
+/// What an access of memory is for.
+#[derive(Clone, Copy, Debug, PartialEq, Eq)]
+pub enum AccessKind {
+    /// The fetch of the unit's instruction.
+    Fetch,
+    /// The fetch of the instruction in the delay slot.
+    Slot,
+    /// The load that the unit makes.
+    Load,
+    /// The store that the unit makes.
+    Store,
+}
+
 /// The registers: the 32 general ones, and HI and LO. No instruction writes register 0.
 #[derive(Clone, Copy, Debug, PartialEq, Eq)]
 pub struct Regs {

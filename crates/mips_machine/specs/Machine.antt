@@ -1,11 +1,13 @@
 -- The machine: the values of a program with the cycles that it has taken, and the step of one unit.
-use Rattle.std.specs.Prelude.{◌≡◌, ℕ, ◌+◌, ◌==◌, List, sum_by, None, Option, if◌then◌else◌}
+use Rattle.std.specs.Prelude.{◌≡◌, ℕ, ◌+◌, ◌==◌, List, [], ◌∷◌, sum_by, None, Some, Option, if◌then◌else◌}
 use Rattle.cache_config.specs.declared.profile.Profile.{Profile}
-use Rattle.cache_config.specs.Instructions.{Costs, access_cost, cost_of, costs_of}
+use Rattle.cache_config.specs.Instructions.{Costs, class_cost, costs_of, stage_latency}
 use Rattle.elf_mips.specs.declared.image.Image.{Image}
+use Rattle.mips_decode.specs.declared.instr.Instr.{Instr}
 use Rattle.mips_decode.specs.declared.step.Regs.{Regs}
 use Rattle.mips_decode.specs.declared.step.Touched.{Touched}
 use Rattle.mips_decode.specs.State.{State, code_at, return_address}
+use Rattle.mips_decode.specs.Accesses.{UnitAccess, accesses_at}
 use Rattle.mips_decode.specs.Start.{IsStart}
 use Rattle.mips_decode.specs.Step.{Done, Stepped, Went, Returned, Trapped, value_step}
 use Rattle.mips_machine.specs.declared.fill.Fill.{Fill}
@@ -13,9 +15,28 @@ use Rattle.mips_machine.specs.declared.outcome.Outcome.{Outcome}
 use Rattle.mips_machine.specs.declared.outcome.Outcome.TheVariants.{Going, Returned as HasEnded, Trap}
 use Rattle.mips_machine.specs.Image.{regions_of, registers_at_start, setting_of, with_fills}
 
--- The cycles of a unit: those of its instructions and of its load or store.
-abbrev pub cost : Costs → Done → ℕ
-cost costs done = sum_by (cost_of costs) done.instructions + access_cost costs done.access
+-- A store takes its latency, whatever lies in the caches: it goes through none of them.
+abbrev pub store_cost : Costs → Option Touched → ℕ
+store_cost costs None = 0
+store_cost costs (Some touched) = if touched.store then costs.store else 0
+
+-- The cycles of a unit by its values alone: those of the classes of its instructions, and the latency of its store.
+abbrev pub own_cost : Costs → List Instr → Option Touched → ℕ
+own_cost costs instructions access = sum_by (class_cost costs) instructions + store_cost costs access
+
+-- The cycles of accesses, one after the other: the latencies of the stages that each of them visits. Without caches
+-- each fetch and each load visits stage 1, which is memory.
+abbrev pub access_costs : Costs → List UnitAccess → ℕ
+access_costs costs [] = 0
+access_costs costs (access ∷ more) = stage_latency costs access.kind 1 + access_costs costs more
+
+-- The cycles of a unit at an address, in these two parts, by its instructions and its load or store.
+abbrev pub cost_at : Costs → (address : ℕ) → List Instr → Option Touched → ℕ
+cost_at costs address instructions access =
+    own_cost costs instructions access + access_costs costs (accesses_at address instructions access)
+
+abbrev pub cost : Costs → (address : ℕ) → Done → ℕ
+cost costs address done = cost_at costs address done.instructions done.access
 
 -- The machine's values, the cycles since the start, the load or store of the last unit, and the costs.
 pub record Machine : Type 0 where
@@ -32,16 +53,16 @@ pub record After : Type 0 where
 -- The machine after a unit that leaves these values.
 abbrev pub done_by : Machine → Done → State → Machine
 done_by m done s =
-    record m { values = s; cycles = m.cycles + cost m.costs done; last = done.access }
+    record m { values = s; cycles = m.cycles + cost m.costs m.values.pc done; last = done.access }
 
--- The machine after a unit that goes on to an address, with its cycles and its load or store.
+-- The machine after a unit that goes on to an address, took these cycles and made this load or store.
 abbrev pub moved : Machine → (next cycles : ℕ) → Option Touched → After
 moved m next cycles access =
     record {
       outcome = (if next == return_address then HasEnded else Going);
       machine = record m {
         values = record m.values { pc = next };
-        cycles = m.cycles + (cycles + access_cost m.costs access);
+        cycles = m.cycles + cycles;
         last = access;
       };
     }

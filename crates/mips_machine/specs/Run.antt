@@ -1,9 +1,10 @@
 -- Runs of the machine: lists of machines that the whole step joins.
-use Rattle.std.specs.Prelude.{◌≡◌, ℕ, ◌+◌, List, [], ◌∷◌, map, Option}
+use Rattle.std.specs.Prelude.{◌≡◌, ℕ, List, [], ◌∷◌, map, sum_by}
 use Rattle.mips_decode.specs.State.{State}
 use Rattle.mips_machine.specs.declared.outcome.Outcome.{Outcome}
 use Rattle.mips_machine.specs.declared.outcome.Outcome.TheVariants.{Going, Returned, Trap}
-use Rattle.mips_decode.specs.Step.{Stepped, Went, Returned as Ended, Trapped, value_step}
+use Rattle.mips_decode.specs.Step.{Stepped, Went, Returned as Ended, Trapped}
+use Rattle.mips_decode.specs.Units.{RunUnit}
 use Rattle.cache_config.specs.Instructions.{Costs}
 use Rattle.mips_machine.specs.Machine.{Machine, cost, whole_step}
 
@@ -28,13 +29,15 @@ last_machine m (n ∷ later) = last_machine n later
 abbrev pub values_of : List Machine → List State
 values_of machines = map (λ (m : Machine). m.values) machines
 
--- The cycles of a unit over plain values: a trap costs nothing.
-abbrev pub step_cost : Costs → Stepped → ℕ
-step_cost costs (Went done s) = cost costs done
-step_cost costs (Ended done s) = cost costs done
-step_cost costs (Trapped kind address) = 0
+-- The cycles of a step at an address over plain values: a trap costs nothing.
+abbrev pub step_cost : Costs → (address : ℕ) → Stepped → ℕ
+step_cost costs address (Went done s) = cost costs address done
+step_cost costs address (Ended done s) = cost costs address done
+step_cost costs address (Trapped kind trapped) = 0
 
--- The cycles of a run over plain values: those of its units together.
-abbrev pub run_cost : Costs → (ℕ → Option ℕ) → State → List State → ℕ
-run_cost costs code s [] = 0
-run_cost costs code s (t ∷ later) = step_cost costs (value_step code s) + run_cost costs code t later
+abbrev pub unit_cycles : Costs → RunUnit → ℕ
+unit_cycles costs unit = step_cost costs unit.at.address unit.step
+
+-- The cycles of a run: those of its units together.
+abbrev pub run_cost : Costs → List RunUnit → ℕ
+run_cost costs units = sum_by (unit_cycles costs) units

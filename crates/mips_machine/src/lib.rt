@@ -2,6 +2,7 @@
 #![tactic(auto)]
 
 mod clash;
+mod cost;
 mod fill;
 mod fillable;
 mod index;

@@ -9,6 +9,7 @@ ghost use Rattle.mips_decode.specs.Step.{plain_done, unit_of};
 ghost use Rattle.mips_machine.specs.Image.{HasNoClash, IsFillable, general_at_start, registers_at_start, regions_of, setting_of, with_fills};
 ghost use Rattle.mips_decode.specs.Table.{IsValid};
 
+use crate::cost::{plain_cycles, transfer_cycles};
 use crate::fill::Fill;
 use crate::memory::Memory;
 use crate::outcome::Outcome;
@@ -149,7 +150,7 @@ impl Machine {
                 Ok(access) => access,
                 Err(kind) => return Outcome::Trap { kind, address: pc },
             };
-            let cycles = self.costs.instruction(&instr);
+            let cycles = plain_cycles(&self.costs, &instr, &access);
             return self.advance(pc + 4, cycles, access);
         };
         let slot = match fetch(&self.memory, pc + 4) {
@@ -173,17 +174,17 @@ impl Machine {
             },
         };
         self.regs = regs;
-        let cycles = self.costs.instruction(&instr) + self.costs.instruction(&slot);
+        let cycles = transfer_cycles(&self.costs, &instr, &slot, &access);
         self.advance(way.next, cycles, access)
     }
 
-    /// Goes to the next unit, after these cycles and the latency of this load or store.
+    /// Goes to the next unit, after these cycles and this load or store.
     fn advance(&mut self, next: u32, cycles: u64, access: Option<Touched>) -> Outcome
         requires { self.old.cycles + cycles < 2 ^ 63 }
         ensures { record { outcome = result; machine = self.new } ≡ moved self.old next cycles access }
     {
         self.pc = next;
-        self.cycles += cycles + self.costs.access(&access);
+        self.cycles += cycles;
         self.last = access;
         if next == RETURN_ADDRESS {
             Outcome::Returned

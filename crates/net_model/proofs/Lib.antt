@@ -7,3 +7,5 @@ pub mod UnitFaults
 pub mod Zero
 pub mod Ways
 pub mod Steps
+pub mod UnitAccesses
+pub mod RunPaths

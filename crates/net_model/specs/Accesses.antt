@@ -4,12 +4,21 @@ use Rattle.elf_mips.specs.declared.image.Image.{Image}
 use Rattle.flow_net.specs.declared.net.Access.{Access}
 use Rattle.flow_net.specs.declared.net.Place.{Place}
 use Rattle.flow_net.specs.declared.net.Role.{Role}
-use Rattle.flow_net.specs.declared.net.Role.TheVariants.{Fetch, Slot, Load}
+use Rattle.flow_net.specs.declared.net.Role.TheVariants.{Fetch, Slot, Load, Store}
+use Rattle.mips_decode.specs.declared.step.AccessKind.{AccessKind}
+use Rattle.mips_decode.specs.declared.step.AccessKind.TheVariants as kind
 use Rattle.net_model.specs.declared.unit.CodeUnit.{CodeUnit}
 use Rattle.net_model.specs.declared.unit.Content.{Content}
 use Rattle.net_model.specs.declared.unit.Content.TheVariants.{Unit as Stands, Fault}
 use Rattle.net_model.specs.Onward.{load_of}
 use Rattle.net_model.specs.Targets.{unit_at}
+
+-- What an access of the net is, as the accesses of a unit that is done are told.
+abbrev pub kind_of : Role → AccessKind
+kind_of Fetch = kind.Fetch
+kind_of Slot = kind.Slot
+kind_of Load = kind.Load
+kind_of Store = kind.Store
 
 abbrev pub access : (number : ℕ) → Role → (address : ℕ) → Access
 access number role address = record { place = number; role = role; at = address }

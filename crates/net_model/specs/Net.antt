@@ -1,6 +1,6 @@
 -- The net of a program: a place for each unit of each context, an arc for each way on, call and return, an
 -- instance of each loop in each context, and the accesses of each place.
-use Rattle.std.specs.Prelude.{◌≡◌, ℕ, ◌+◌, ◌<◌, drop, AllPairs, Contains, Some, true, slice_get}
+use Rattle.std.specs.Prelude.{◌≡◌, ℕ, ◌+◌, ◌<◌, drop, All, AllPairs, Contains, Some, true, slice_get}
 use Rattle.elf_mips.specs.declared.image.Image.{Image}
 use Rattle.flow_net.specs.Numbers.{item_at}
 use Rattle.flow_net.specs.declared.net.Context.{Context}
@@ -57,6 +57,14 @@ pub record HasArcs (image : Image) (entry : ℕ) (net : Net) : Type 0 where
   pub arcs : (from to : ℕ) → LeadsOn image net from to →
       (number : ℕ) × (1 < number) × (item_at number net.arcs ≡ Some (record { from = from; to = to }))
   pub order : AllPairs IsArcBefore (drop 1 net.arcs)
+
+-- A unit stands at the address of each place: so it is where the code has no fault.
+pub record IsUnitOf (image : Image) (place : Place) : Type 0 where
+  pub unit : CodeUnit
+  pub stands : unit_at image place.address ≡ Stands unit
+
+abbrev pub HasUnits : Image → Net → Type 0
+HasUnits image net = All (IsUnitOf image) net.places
 
 -- The net of a program from its entry on.
 pub record IsNet (image : Image) (entry : ℕ) (net : Net) : Type 0 where

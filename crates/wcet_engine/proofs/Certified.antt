@@ -1,7 +1,6 @@
 -- What the solver asks of a program's net.
 use Rattle.std.proofs.Common.{ℕ, zero, suc, ◌+◌, ◌^◌, ◌<◌, ◌≤◌, List, [], ◌∷◌, length, get_or, AllPairs, arith}
 use Rattle.std.proofs.lemmas.Option.{slice_get-get_or}
-use Rattle.call_contexts.specs.Programs.{HasUnits}
 use Rattle.call_contexts.specs.Sizes.{most_places}
 use Rattle.call_contexts.proofs.NetItems.{place-positive, place-within}
 use Rattle.elf_mips.specs.declared.image.Image.{Image}
@@ -9,7 +8,7 @@ use Rattle.flow_net.specs.declared.net.LoopInst.{LoopInst}
 use Rattle.flow_net.specs.declared.net.Net.{Net}
 use Rattle.ipet_program.specs.Programs.{FitsImage}
 use Rattle.nest_solver.specs.Tables.{IsFew}
-use Rattle.net_model.specs.Net.{IsNet}
+use Rattle.net_model.specs.Net.{HasUnits, IsNet}
 use Rattle.net_model.proofs.Contents.{unit-content}
 
 -- The places of a net are units without a fault.

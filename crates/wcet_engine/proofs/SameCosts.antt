@@ -1,5 +1,5 @@
 -- Units cost the same under profiles with the same costs.
-use Rattle.std.proofs.Common.{◌≡◌, Option, Some, None, refl, arith}
+use Rattle.std.proofs.Common.{◌≡◌, ℕ, List, [], ◌∷◌, Option, Some, None, refl, ap, arith}
 use Rattle.std.proofs.Math.Path.{fun_ext}
 use Rattle.cache_config.specs.declared.profile.Profile.{Profile}
 use Rattle.elf_mips.specs.declared.image.Image.{Image}
@@ -10,12 +10,18 @@ use Rattle.mips_decode.specs.Columns.{class_of}
 use Rattle.mips_decode.specs.declared.columns.CostClass.{CostClass}
 use Rattle.mips_decode.specs.declared.instr.Instr.{Instr}
 use Rattle.mips_decode.specs.declared.instr.Instr.TheVariants.{Three, Shift, HiLo, MulDiv, Imm, Lui, Load, Store, Branch, Jump, JumpReg, JumpLink, Stop}
-use Rattle.cache_config.specs.Instructions.{costs_of, cycles_of}
+use Rattle.cache_config.specs.Instructions.{costs_of, cycles_of, stages_of}
 use Rattle.net_model.specs.declared.unit.Content.{Content}
 use Rattle.net_model.specs.declared.unit.Content.TheVariants.{Unit as Stands, Fault}
 use Rattle.net_model.specs.Units.{content_at}
 use Rattle.ipet_program.specs.Programs.{place_price, price_at}
-use Rattle.ipet_program.specs.Costs.{content_cost, instr_cost, slot_cost, touch_cost}
+use Rattle.ipet_program.specs.Costs.{content_cost, first_stage, first_stages, own_cost, slot_cost, store_latency}
+use Rattle.flow_net.specs.declared.net.Access.{Access}
+use Rattle.net_model.specs.Accesses.{kind_of, unit_accesses}
+use Rattle.mips_decode.specs.declared.step.AccessKind.{AccessKind}
+use Rattle.mips_decode.specs.declared.step.AccessKind.TheVariants.{Fetch, Slot, Load as Loading, Store as Storing}
+use Rattle.std.specs.Prelude.{slice_index_or}
+use Rattle.std.proofs.lemmas.List.Sums.{sum_by-cons}
 
 -- Two profiles with the same costs: those of memory and of stores, and the cycles of each class.
 pub record HaveSameCosts (profile other : Profile) : Type 0 where
@@ -23,48 +29,67 @@ pub record HaveSameCosts (profile other : Profile) : Type 0 where
   pub store : profile.store ≡ other.store
   pub classes : (class : CostClass) → cycles_of profile.cycles class ≡ cycles_of other.cycles class
 
-touch-same : (profile other : Profile) (instr : Instr) → HaveSameCosts profile other →
-    touch_cost (costs_of profile) instr ≡ touch_cost (costs_of other) instr
-touch-same profile other (Load op rt base offset) same = same.memory
-touch-same profile other (Store op rt base offset) same = same.store
-touch-same profile other (Three op rd rs rt) same = refl
-touch-same profile other (Shift op rd rt by) same = refl
-touch-same profile other (HiLo op number) same = refl
-touch-same profile other (MulDiv op rs rt) same = refl
-touch-same profile other (Imm op rt rs imm) same = refl
-touch-same profile other (Lui rt imm) same = refl
-touch-same profile other (Branch op rs rt offset) same = refl
-touch-same profile other (Jump link index) same = refl
-touch-same profile other (JumpReg rs) same = refl
-touch-same profile other (JumpLink rd rs) same = refl
-touch-same profile other (Stop op code) same = refl
+store-same : (profile other : Profile) (instr : Instr) → HaveSameCosts profile other →
+    store_latency (costs_of profile) instr ≡ store_latency (costs_of other) instr
+store-same profile other (Store op rt base offset) same = same.store
+store-same profile other (Load op rt base offset) same = refl
+store-same profile other (Three op rd rs rt) same = refl
+store-same profile other (Shift op rd rt by) same = refl
+store-same profile other (HiLo op number) same = refl
+store-same profile other (MulDiv op rs rt) same = refl
+store-same profile other (Imm op rt rs imm) same = refl
+store-same profile other (Lui rt imm) same = refl
+store-same profile other (Branch op rs rt offset) same = refl
+store-same profile other (Jump link index) same = refl
+store-same profile other (JumpReg rs) same = refl
+store-same profile other (JumpLink rd rs) same = refl
+store-same profile other (Stop op code) same = refl
 
-instr-same : (profile other : Profile) (instr : Instr) → HaveSameCosts profile other →
-    instr_cost (costs_of profile) instr ≡ instr_cost (costs_of other) instr
-instr-same profile other instr same =
-    omega (
-      arith,
-      same.classes (class_of instr),
-      same.memory,
-      touch-same profile other instr same,
-    )
+own-same : (profile other : Profile) (instr : Instr) → HaveSameCosts profile other →
+    own_cost (costs_of profile) instr ≡ own_cost (costs_of other) instr
+own-same profile other instr same =
+    omega (arith, same.classes (class_of instr), store-same profile other instr same)
 
 slot-same : (profile other : Profile) (slot : Option Instr) → HaveSameCosts profile other →
     slot_cost (costs_of profile) slot ≡ slot_cost (costs_of other) slot
 slot-same profile other None same = refl
-slot-same profile other (Some slot) same = instr-same profile other slot same
+slot-same profile other (Some slot) same = own-same profile other slot same
 
-content-same : (profile other : Profile) (content : Content) → HaveSameCosts profile other →
-    content_cost (costs_of profile) content ≡ content_cost (costs_of other) content
-content-same profile other (Stands unit) same =
-    omega (arith, instr-same profile other unit.instr same, slot-same profile other unit.slot same)
-content-same profile other (Fault kind place) same = refl
+stages-same : (profile other : Profile) (kind : AccessKind) → HaveSameCosts profile other →
+    stages_of (costs_of profile) kind ≡ stages_of (costs_of other) kind
+stages-same profile other Fetch same = ap (λ (latency : ℕ). latency ∷ []) same.memory
+stages-same profile other Slot same = ap (λ (latency : ℕ). latency ∷ []) same.memory
+stages-same profile other Loading same = ap (λ (latency : ℕ). latency ∷ []) same.memory
+stages-same profile other Storing same = refl
 
-at-same : (image : Image) (profile other : Profile) (place : Option Place) → HaveSameCosts profile other →
-    price_at profile image place ≡ price_at other image place
-at-same image profile other None same = refl
-at-same image profile other (Some place) same = content-same profile other (content_at image place.address) same
+first_stages-same : (profile other : Profile) (accesses : List Access) → HaveSameCosts profile other →
+    first_stages (costs_of profile) accesses ≡ first_stages (costs_of other) accesses
+first_stages-same profile other [] same = refl
+first_stages-same profile other (access ∷ more) same =
+    let rest = first_stages-same profile other more same in
+    let first : first_stage (costs_of profile) access ≡ first_stage (costs_of other) access =
+    ap (λ (stages : List ℕ). slice_index_or stages 0 0) (stages-same profile other (kind_of access.role) same) in
+    let left = sum_by-cons (first_stage (costs_of profile)) access more in
+    let right = sum_by-cons (first_stage (costs_of other)) access more in
+    omega (arith, rest, first, left, right)
+
+content-same : (profile other : Profile) (number : ℕ) (content : Content) (address : ℕ) → HaveSameCosts profile other →
+    content_cost (costs_of profile) number content address ≡ content_cost (costs_of other) number content address
+content-same profile other number (Stands unit) address same =
+    omega (
+      arith,
+      own-same profile other unit.instr same,
+      slot-same profile other unit.slot same,
+      first_stages-same profile other (unit_accesses number unit address) same,
+    )
+content-same profile other number (Fault kind place) address same = refl
+
+at-same : (image : Image) (profile other : Profile) (number : ℕ) (place : Option Place) → HaveSameCosts profile other →
+    price_at profile image number place ≡ price_at other image number place
+at-same image profile other number None same = refl
+at-same image profile other number (Some place) same =
+    content-same profile other number (content_at image place.address) place.address same
 
 pub same-price : (image : Image) (profile other : Profile) (net : Net) → HaveSameCosts profile other →
     place_price profile image net ≡ place_price other image net
-same-price image profile other net same = fun_ext (λ number. at-same image profile other (item_at number net.places) same)
+same-price image profile other net same = fun_ext (λ number. at-same image profile other number (item_at number net.places) same)

@@ -15,6 +15,7 @@ use Rattle.ipet_program.specs.Programs.{crude_limit, crude_of, place_price, pric
 use Rattle.mips_decode.specs.Step.{fetched}
 use Rattle.net_model.specs.declared.unit.CodeKind.{CodeKind}
 use Rattle.net_model.specs.declared.unit.CodeKind.TheVariants as code
+use Rattle.net_model.specs.declared.unit.Content.{Content}
 use Rattle.net_model.specs.declared.unit.Content.TheVariants.{Unit as Stands}
 use Rattle.net_model.specs.Units.{Word, Holds, Lacks, content_at, content_of, is_transfer, known, with_slot, word_at}
 use Rattle.net_model.proofs.SameCode.{IsSameCode, function-same, offends-same}
@@ -49,12 +50,14 @@ content-same a b address same =
 code-of : (a b : Image) → IsSame a b → IsSameCode a b
 code-of a b same = record { contents = λ address. content-same a b address same; marks = same.marks }
 
-price_at-same : (a b : Image) (profile : Profile) (place : Option Place) → IsSame a b → price_at profile a place ≡ price_at profile b place
-price_at-same a b profile None same = refl
-price_at-same a b profile (Some place) same = ap (content_cost (costs_of profile)) (content-same a b place.address same)
+price_at-same : (a b : Image) (profile : Profile) (number : ℕ) (place : Option Place) → IsSame a b →
+    price_at profile a number place ≡ price_at profile b number place
+price_at-same a b profile number None same = refl
+price_at-same a b profile number (Some place) same =
+    ap (λ (c : Content). content_cost (costs_of profile) number c place.address) (content-same a b place.address same)
 
 price-same : (a b : Image) (profile : Profile) (net : Net) → IsSame a b → place_price profile a net ≡ place_price profile b net
-price-same a b profile net same = fun_ext (λ number. price_at-same a b profile (item_at number net.places) same)
+price-same a b profile net same = fun_ext (λ number. price_at-same a b profile number (item_at number net.places) same)
 
 -- What is said of the program of an image holds of that of another one that is the same so far.
 cycle-same : (a b : Image) (entry place : ℕ) → IsSame a b → IsIrreducibleIn a entry place → IsIrreducibleIn b entry place

@@ -1,7 +1,7 @@
 -- What the stages of an analysis say of an image.
 use Rattle.std.specs.Prelude.{◌≡◌, ℕ, ◌<◌, ◌≤◌, ◌⊎◌, length}
 use Rattle.cache_config.specs.declared.profile.Profile.{Profile}
-use Rattle.call_contexts.specs.Programs.{HasNoReturn, HasUnits}
+use Rattle.call_contexts.specs.Programs.{HasNoReturn}
 use Rattle.call_contexts.specs.Sizes.{AreSizes, most_contexts, most_places}
 use Rattle.elf_mips.specs.declared.image.Image.{Image}
 use Rattle.flow_net.specs.Nested.{IsNested}
@@ -14,7 +14,7 @@ use Rattle.nest_solver.specs.Tables.{IsFew}
 use Rattle.net_model.specs.declared.unit.CodeKind.{CodeKind}
 use Rattle.net_model.specs.Faults.{rank as code_rank}
 use Rattle.net_model.specs.Functions.{CanReturn}
-use Rattle.net_model.specs.Net.{IsNet}
+use Rattle.net_model.specs.Net.{HasUnits, IsNet}
 use Rattle.wcet_engine.specs.declared.analysis.Refused.{Refused}
 use Rattle.wcet_engine.specs.declared.analysis.Refused.TheVariants.{Fault, Memory}
 use Rattle.wcet_engine.specs.declared.refusal.Refusal.{Refusal}

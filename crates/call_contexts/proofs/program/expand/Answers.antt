@@ -2,10 +2,11 @@
 use Rattle.std.proofs.Common.{◌≡◌, ◌-◌, ℕ, suc, length, List, sym, ap, subst, arith, rules}
 use Rattle.elf_mips.specs.declared.image.Image.{Image}
 use Rattle.flow_net.specs.declared.net.Context.{Context}
+use Rattle.call_contexts.specs.Instances.{HasLayout}
 use Rattle.call_contexts.specs.Programs.{IsProgram, TellsFault}
 use Rattle.call_contexts.specs.Sizes.{AreSizes}
 use Rattle.call_contexts.proofs.NestedNet.{net-nested}
-use Rattle.call_contexts.proofs.RunPaths.{runs-along}
+use Rattle.net_model.proofs.RunPaths.{runs-along}
 use Rattle.call_contexts.proofs.Parts.{program-graphs}
 use Rattle.call_contexts.proofs.program.expand.Goals as goal
 
@@ -84,8 +85,9 @@ returns-clause-sizes c = λ image entry program.
 
 pub returns-clause-paths : goal.returns-clause-paths
 returns-clause-paths c = λ image entry program s states run.
-    let is = c.in_ok-net.ensures.net image entry (record {
+    let laid : HasLayout image entry c.args.graphs.now c.args.nests.now c.in_ok-layout.layout = record {
       program = program;
       layout_is = c.in_ok-layout.ensures.layout image entry (program-graphs image entry c.args.graphs.now c.args.nests.now program);
-    }) in
-    runs-along image entry c.in_ok-net.net is program.faultless s states run
+    } in
+    runs-along image entry c.in_ok-net.net (c.in_ok-net.ensures.net image entry laid) (c.in_ok-net.ensures.units image entry laid)
+    s states run
