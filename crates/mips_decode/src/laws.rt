@@ -5,5 +5,4 @@ ghost use Rattle.mips_decode.specs.Units.{UnitsGrow};
 /// A run that goes on by a state has one unit more at its end: that of the state at which it stopped.
 pub fn units_grow()
     ensures grows { UnitsGrow }
-{
-}
+{}

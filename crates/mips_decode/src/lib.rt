@@ -22,10 +22,10 @@ pub use columns::{CostClass, cost_class, reads, writes};
 pub use decoder::decode;
 pub use effect::apply;
 pub use encoder::encode;
-pub use laws::units_grow;
 pub use instr::{
     BranchOp, HiLoOp, ImmOp, Instr, LoadOp, MulOp, Op3, Reg, ShiftOp, StopOp, StoreOp,
 };
+pub use laws::units_grow;
 pub use memory::{
     address_of, load_touched, load_value, number_at, put_number, store_touched, store_value,
 };

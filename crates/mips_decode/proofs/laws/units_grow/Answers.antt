@@ -3,4 +3,4 @@ use Rattle.mips_decode.proofs.UnitsEnd.{units-grow}
 use Rattle.mips_decode.proofs.laws.units_grow.Goals as goal
 
 pub returns : goal.returns
-returns c = units-grow
+returns c = record { grows = units-grow }
