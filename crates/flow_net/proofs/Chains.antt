@@ -114,6 +114,27 @@ short loops numbers chains =
           (chains.falls scope inst e);
     }
 
+-- There is a depth that no scope of the net has above the number of its loop instances.
+pub record IsShort (loops : List LoopInst) : Type 0 where
+  pub depth : ℕ → ℕ
+  pub falls : (scope : ℕ) (inst : LoopInst) → item_at scope loops ≡ Some inst →
+      depth inst.outer < depth scope
+  pub small : (scope : ℕ) → IsNumberOrZero loops scope → depth scope ≤ length loops
+
+pub chains-short : (loops : List LoopInst) →
+    All (λ inst. IsNumberOrZero loops inst.outer) loops → ChainsEnd loops → IsShort loops
+chains-short loops numbers chains =
+    record {
+      depth = (short loops numbers chains).depth;
+      falls = (short loops numbers chains).falls;
+      small = λ scope within. omega (
+        arith,
+        shallower-falls chains.depth scope (chains.depth scope + 1) (length loops + 1)
+            (omega (arith, within)) (omega arith),
+        shallower-small chains.depth (chains.depth scope + 1) (length loops + 1),
+      );
+    }
+
 -- The number of scopes around falls on the way outward.
 pub around-outward : (loops : List LoopInst) →
     All (λ inst. IsNumberOrZero loops inst.outer) loops → ChainsEnd loops → (scope : ℕ)

@@ -4,7 +4,7 @@ use Rattle.std.proofs.lemmas.Option.{same_Some}
 use Rattle.std.proofs.lemmas.Bool.Decides.{nat_tests}
 use Rattle.std.specs.List.{list_all}
 use Rattle.flow_net.specs.Numbers.{item_at, IsNumberOf}
-use Rattle.flow_net.specs.Scopes.{Holds, HasScopes}
+use Rattle.flow_net.specs.Scopes.{Holds, HasScopes, scopes_round}
 use Rattle.flow_net.specs.Scopes.IsWithin.{out, here}
 use Rattle.flow_net.specs.Paths.{IsRunPath}
 use Rattle.flow_net.specs.Nested.{HasNumbers, IsEntered, HasRanks, IsBack, IsNested}
@@ -145,9 +145,12 @@ entered_two =
       only = arcs_are (λ number arc. arc.from ≡ 0 → number ≡ 1) (λ _. refl)
           (λ e. absurd (omega (arith, e))) (λ e. absurd (omega (arith, e)))
           (λ e. absurd (omega (arith, e))) (λ e. absurd (omega (arith, e)));
-      left = (5, (arc_of 1 0, refl, refl));
       reached = reached_two;
     }
+
+-- The scopes round each place, outermost first.
+pub round_two : (scopes_round two_loops 1 ≡ 0 ∷ 1 ∷ []) × (scopes_round two_loops 2 ≡ 0 ∷ 1 ∷ 2 ∷ [])
+round_two = (refl, refl)
 
 -- The arcs into loop 1, and those into loop 2.
 entering_1 : (number : ℕ) (arc : NetArc) → item_at number two_loops.arcs ≡ Some arc →
@@ -222,6 +225,7 @@ nested_two_loops =
       numbers = numbers_two;
       scopes = scopes_two;
       entered = entered_two;
+      left = (5, (arc_of 1 0, refl, refl));
       held = loops_are (λ scope inst. Holds two_loops scope inst.header) one_holds_1 two_holds_2;
       bounds = all_passed (λ inst. 1 ≤ inst.bound) (λ inst. nat_le 1 inst.bound)
           (λ inst h. grind (arith, nat_tests)) two_loops.loops refl;

@@ -1,20 +1,14 @@
 -- How scopes lie in one another: the scopes around a place are a line, from the innermost outward.
 use Rattle.std.proofs.Common.{◌≡◌, ℕ, List, Some, refl, subst, inl, inr, ◌⊎◌}
 use Rattle.flow_net.specs.Numbers.{item_at}
-use Rattle.flow_net.specs.Scopes.{IsWithin}
+use Rattle.flow_net.specs.Scopes.{IsInside, IsWithin}
 use Rattle.flow_net.specs.Scopes.IsWithin.{here, out}
 use Rattle.flow_net.specs.declared.net.LoopInst.{LoopInst}
 use Rattle.flow_net.proofs.Numbers.{item_at-same}
 
--- The next scope outward of a scope is within another one.
-pub record IsBelow (loops : List LoopInst) (outer scope : ℕ) : Type 0 where
-  pub inst : LoopInst
-  pub there : item_at scope loops ≡ Some inst
-  pub within : IsWithin loops outer inst.outer
-
--- What is within a scope is that scope or lies below it.
+-- What is within a scope is that scope or lies inside it.
 pub within-cases : (loops : List LoopInst) (outer scope : ℕ) → IsWithin loops outer scope →
-    (scope ≡ outer) ⊎ IsBelow loops outer scope
+    (scope ≡ outer) ⊎ IsInside loops outer scope
 within-cases loops outer _ here = inl refl
 within-cases loops outer _ (out scope inst there within) =
     inr (record { inst = inst; there = there; within = within })

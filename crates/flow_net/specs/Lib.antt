@@ -2,6 +2,7 @@
 pub mod Numbers
 pub mod Letters
 pub mod Scopes
+pub mod Entering
 pub mod Paths
 pub mod Nested
 pub mod Visits

@@ -3,6 +3,7 @@
 use Rattle.std.specs.Prelude.{◌≡◌, ℕ, ◌<◌, ◌≤◌, List, length, Some, All}
 use Rattle.flow_net.specs.Numbers.{item_at, IsNumberOf, IsNumberOrZero}
 use Rattle.flow_net.specs.Scopes.{Holds, HasScopes}
+use Rattle.flow_net.specs.Entering.{IsOutside}
 use Rattle.flow_net.specs.Paths.{IsRunPath}
 use Rattle.flow_net.specs.declared.net.Net.{Net}
 use Rattle.flow_net.specs.declared.net.NetArc.{NetArc}
@@ -18,12 +19,11 @@ pub record HasNumbers (net : Net) : Type 0 where
   pub headers : All (λ inst. IsNumberOf net.places inst.header) net.loops
   pub accesses : All (λ access. IsNumberOf net.places access.place) net.accesses
 
--- A run begins with arc 1 and ends with an arc to 0, and may come to each place.
+-- A run begins with arc 1, and may come to each place.
 pub record IsEntered (net : Net) : Type 0 where
   pub first : (arc : NetArc) × (item_at 1 net.arcs ≡ Some arc) × (arc.from ≡ 0) × (0 < arc.to)
   pub only : (number : ℕ) (arc : NetArc) → item_at number net.arcs ≡ Some arc → arc.from ≡ 0 →
       number ≡ 1
-  pub left : (number : ℕ) × ((arc : NetArc) × (item_at number net.arcs ≡ Some arc) × (arc.to ≡ 0))
   pub reached : (place : ℕ) → IsNumberOf net.places place →
       (numbers : List ℕ) × IsRunPath net.arcs numbers place
 
@@ -50,6 +50,8 @@ pub record IsNested (net : Net) : Type 0 where
   pub numbers : HasNumbers net
   pub scopes : HasScopes net
   pub entered : IsEntered net
+  -- Some arc goes to 0, where a run ends.
+  pub left : (number : ℕ) × ((arc : NetArc) × (item_at number net.arcs ≡ Some arc) × (arc.to ≡ 0))
   -- Each loop instance holds its header.
   pub held : (scope : ℕ) (inst : LoopInst) → item_at scope net.loops ≡ Some inst →
       Holds net scope inst.header
@@ -58,8 +60,8 @@ pub record IsNested (net : Net) : Type 0 where
   pub distinct : (scope other : ℕ) (inst another : LoopInst) →
       item_at scope net.loops ≡ Some inst → item_at other net.loops ≡ Some another →
       inst.header ≡ another.header → scope ≡ other
-  -- An arc into a held place from one that isn't held, or from 0, goes to the header.
+  -- An arc to a held place from outside the loop instance goes to its header.
   pub entering : (number scope : ℕ) (arc : NetArc) (inst : LoopInst) →
       item_at number net.arcs ≡ Some arc → item_at scope net.loops ≡ Some inst →
-      Holds net scope arc.to → (Holds net scope arc.from → ⊥) → arc.to ≡ inst.header
+      Holds net scope arc.to → IsOutside net scope arc.from → arc.to ≡ inst.header
   pub ranks : HasRanks net

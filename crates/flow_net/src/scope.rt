@@ -1,9 +1,9 @@
 //! Which scopes hold which places.
 
-ghost use Rattle.std.specs.Prelude.{All};
+ghost use Rattle.std.specs.Prelude.{◌≡◌, All};
 ghost use Rattle.std.specs.Bool.{OnFalse, OnTrue};
 ghost use Rattle.flow_net.specs.Numbers.{IsNumberOf, IsNumberOrZero};
-ghost use Rattle.flow_net.specs.Scopes.{ChainsEnd, HasScopes, Holds, IsWithin};
+ghost use Rattle.flow_net.specs.Scopes.{AreRound, ChainsEnd, HasScopes, Holds, IsWithin, holds_of, scopes_round};
 
 use crate::net::{LoopInst, Net};
 
@@ -15,6 +15,9 @@ impl Net {
         requires scopes { HasScopes self.now }
         ensures held { OnTrue result (Holds self.now scope place) }
         ensures free { OnFalse result (Holds self.now scope place → ⊥) }
+        // As a function: the scope is one of those round the place, which are all that hold it.
+        ensures told { result ≡ holds_of self.now scope place }
+        ensures round { AreRound self.now place (scopes_round self.now place) }
     {
         let innermost = self.places.as_slice()[place as usize - 1].scope;
         is_within(self.loops.as_slice(), innermost, scope)

@@ -12,6 +12,7 @@ use lib.Signed.{◌≤ℤ◌}
 use Rattle.flow_net.specs.Nested.{IsNested}
 use Rattle.flow_net.specs.Numbers.{item_at, IsNumberOf, IsNumberOrZero}
 use Rattle.flow_net.specs.Visits.{target_of}
+use Rattle.flow_net.specs.Scopes.{holds_of}
 use Rattle.flow_net.specs.declared.net.LoopInst.{LoopInst}
 use Rattle.flow_net.specs.declared.net.Net.{Net}
 use Rattle.flow_net.specs.declared.net.NetArc.{NetArc}
@@ -86,20 +87,20 @@ All-at : {X : Type 0} (P : X → Type 0) (f : ℕ → X) (n number : ℕ) → Al
 All-at P f n number all low high =
     item_at-all P (numbered f n) number (f number) all (item_at-numbered f n number low high)
 
-meets-flow : (net : Net) (holds : ℕ → ℕ → Bool) (counts : ℕ → ℕ) →
+meets-flow : (net : Net) (counts : ℕ → ℕ) →
     All (IsMet counts)
-    (numbered (place_row net.arcs) (length net.places) ++ numbered (loop_row net holds) (length net.loops)) →
-    MeetsFlow net holds counts
-meets-flow net holds counts all =
+    (numbered (place_row net.arcs) (length net.places) ++ numbered (loop_row net) (length net.loops)) →
+    MeetsFlow net counts
+meets-flow net counts all =
     let places = numbered (place_row net.arcs) (length net.places) in
-    let loops = numbered (loop_row net holds) (length net.loops) in
+    let loops = numbered (loop_row net) (length net.loops) in
     record {
       places = λ place number. All-at (IsMet counts) (place_row net.arcs) (length net.places) place
           (All-front (IsMet counts) places loops all) number.from_one number.within;
       loops = λ scope inst there.
           let number = item_at-within net.loops scope inst there in
-          subst (λ (found : Option LoopInst). IsMet counts (loop_row_of net.arcs (holds scope) found)) there
-          (All-at (IsMet counts) (loop_row net holds) (length net.loops) scope
+          subst (λ (found : Option LoopInst). IsMet counts (loop_row_of net.arcs (holds_of net scope) found)) there
+          (All-at (IsMet counts) (loop_row net) (length net.loops) scope
           (All-behind (IsMet counts) places loops all) number.from_one number.within);
     }
 
@@ -122,61 +123,61 @@ taken-out net counts j arc there =
     some-low true n = omega (arith, ints)
     some-low false n = omega (arith, ints)
 
-cap-outside : (net : Net) (holds : ℕ → ℕ → Bool) (arc : NetArc) → arc.from ≡ 0 → arc_cap net holds (Some arc) ≡ 1
-cap-outside net holds arc outside =
+cap-outside : (net : Net) (arc : NetArc) → arc.from ≡ 0 → arc_cap net (Some arc) ≡ 1
+cap-outside net arc outside =
     let e : (arc.from == 0) ≡ true = grind (arith, nat_tests) in
-    ap (λ (test : Bool). if test then 1 else turns_at net holds arc.from) e
+    ap (λ (test : Bool). if test then 1 else turns_at net arc.from) e
 
-cap-inside : (net : Net) (holds : ℕ → ℕ → Bool) (arc : NetArc) → (arc.from ≡ 0 → ⊥) →
-    arc_cap net holds (Some arc) ≡ turns_at net holds arc.from
-cap-inside net holds arc inside =
+cap-inside : (net : Net) (arc : NetArc) → (arc.from ≡ 0 → ⊥) →
+    arc_cap net (Some arc) ≡ turns_at net arc.from
+cap-inside net arc inside =
     let e : (arc.from == 0) ≡ false = grind (arith, nat_tests) in
-    ap (λ (test : Bool). if test then 1 else turns_at net holds arc.from) e
+    ap (λ (test : Bool). if test then 1 else turns_at net arc.from) e
 
 module _ (net : Net) (price : ℕ → ℕ) (program : Program) (nested : IsNested net)
     (is : IsProgramOf net price program) (counts : ℕ → ℕ) where
-  meets-of : All (IsMet counts) (drop 1 program.rows) → MeetsFlow net is.holds counts
+  meets-of : All (IsMet counts) (drop 1 program.rows) → MeetsFlow net counts
   meets-of all =
-      meets-flow net is.holds counts
+      meets-flow net counts
       (All-same (IsMet counts)
-      (numbered (place_row net.arcs) (length net.places) ++ numbered (loop_row net is.holds) (length net.loops))
+      (numbered (place_row net.arcs) (length net.places) ++ numbered (loop_row net) (length net.loops))
       (drop 1 program.rows) (sym (ap (drop 1) is.rows)) all)
 
-  out-capped : MeetsFlow net is.holds counts → (place : ℕ) → IsNumberOf net.places place →
-      flow net counts (out_of net place) ≤ℤ pos (counts 1 * turns_at net is.holds place)
+  out-capped : MeetsFlow net counts → (place : ℕ) → IsNumberOf net.places place →
+      flow net counts (out_of net place) ≤ℤ pos (counts 1 * turns_at net place)
   out-capped meets place number =
       let d : Place = record { context = 0; address = 0; scope = 0 } in
-      let kept = flow-kept net is.holds counts meets place number in
-      let capped = place-capped net nested is.holds is.told counts meets place (get_or net.places (place - 1) d)
+      let kept = flow-kept net counts meets place number in
+      let capped = place-capped net nested counts meets place (get_or net.places (place - 1) d)
       (item_at-there net.places place d number) in
       omega (arith, ints)
 
-  arc-capped : MeetsFlow net is.holds counts → (j : ℕ) (arc : NetArc) → item_at j net.arcs ≡ Some arc →
-      counts j ≤ counts 1 * arc_cap net is.holds (Some arc)
+  arc-capped : MeetsFlow net counts → (j : ℕ) (arc : NetArc) → item_at j net.arcs ≡ Some arc →
+      counts j ≤ counts 1 * arc_cap net (Some arc)
   arc-capped meets j arc there =
-      elim (cases_eq arc.from 0) as (λ _. counts j ≤ counts 1 * arc_cap net is.holds (Some arc)) [
+      elim (cases_eq arc.from 0) as (λ _. counts j ≤ counts 1 * arc_cap net (Some arc)) [
         | inl outside ↦
             let first = nested.entered.only j arc there outside in
-            let cap = cap-outside net is.holds arc outside in
-            let product : counts 1 * arc_cap net is.holds (Some arc) ≡ counts 1 * 1 = ap (λ (n : ℕ). counts 1 * n) cap in
+            let cap = cap-outside net arc outside in
+            let product : counts 1 * arc_cap net (Some arc) ≡ counts 1 * 1 = ap (λ (n : ℕ). counts 1 * n) cap in
             omega (arith, ap counts first, product)
         | inr inside ↦
             let within = item_at-all (λ (a : NetArc). IsNumberOrZero net.places a.from) net.arcs j arc
             nested.numbers.starts there in
             let taken = taken-out net counts j arc there in
             let capped = out-capped meets arc.from (record { from_one = omega (arith, inside); within = within }) in
-            let cap = cap-inside net is.holds arc inside in
-            let product : counts 1 * arc_cap net is.holds (Some arc) ≡ counts 1 * turns_at net is.holds arc.from =
+            let cap = cap-inside net arc inside in
+            let product : counts 1 * arc_cap net (Some arc) ≡ counts 1 * turns_at net arc.from =
             ap (λ (n : ℕ). counts 1 * n) cap in
-            let most : pos (counts j) ≤ℤ pos (counts 1 * turns_at net is.holds arc.from) = omega (arith, ints, taken, capped) in
+            let most : pos (counts j) ≤ℤ pos (counts 1 * turns_at net arc.from) = omega (arith, ints, taken, capped) in
             omega (arith, ints, most, product)
       ]
 
   cap-column : (column : ℕ) → IsColumn (length net.arcs) column →
-      cap_or_zero (item_at column program.caps) ≡ arc_cap net is.holds (item_at column net.arcs)
+      cap_or_zero (item_at column program.caps) ≡ arc_cap net (item_at column net.arcs)
   cap-column column within =
       ap (λ (caps : List ℕ). cap_or_zero (item_at column caps)) is.caps
-      ∙ ap cap_or_zero (item_at-numbered (λ j. arc_cap net is.holds (item_at j net.arcs)) (length net.arcs) column
+      ∙ ap cap_or_zero (item_at-numbered (λ j. arc_cap net (item_at j net.arcs)) (length net.arcs) column
       within.0 within.1)
 
   -- Counts that meet all rows but the entry's are at most their caps, taken as often as arc 1.
@@ -188,27 +189,27 @@ module _ (net : Net) (price : ℕ → ℕ) (program : Program) (nested : IsNeste
       let arc = get_or net.arcs (column - 1) d in
       let there = item_at-there net.arcs column d (record { from_one = low; within = inside }) in
       let capped = arc-capped (meets-of all) column arc there in
-      let cap : cap_or_zero (item_at column program.caps) ≡ arc_cap net is.holds (Some arc) =
-      cap-column column (low, inside) ∙ ap (arc_cap net is.holds) there in
-      let product : counts 1 * cap_or_zero (item_at column program.caps) ≡ counts 1 * arc_cap net is.holds (Some arc) =
+      let cap : cap_or_zero (item_at column program.caps) ≡ arc_cap net (Some arc) =
+      cap-column column (low, inside) ∙ ap (arc_cap net) there in
+      let product : counts 1 * cap_or_zero (item_at column program.caps) ≡ counts 1 * arc_cap net (Some arc) =
       ap (λ (n : ℕ). counts 1 * n) cap in
       omega (arith, capped, product)
 
   rows-behind : IsFeasible program counts → All (IsMet counts) (drop 1 program.rows)
   rows-behind feasible =
       let entry = entry_row (length net.arcs) in
-      let more = numbered (place_row net.arcs) (length net.places) ++ numbered (loop_row net is.holds) (length net.loops) in
+      let more = numbered (place_row net.arcs) (length net.places) ++ numbered (loop_row net) (length net.loops) in
       All-same (IsMet counts) (drop 1 program.rows) more (ap (drop 1) is.rows)
       (All-tail (IsMet counts) entry more
-      (All-same (IsMet counts) (rows_of net is.holds) program.rows (sym is.rows) feasible))
+      (All-same (IsMet counts) (rows_of net) program.rows (sym is.rows) feasible))
 
   -- Feasible counts begin the run once.
   pub once : IsFeasible program counts → counts 1 ≡ 1
   once feasible =
       let entry = entry_row (length net.arcs) in
-      let more = numbered (place_row net.arcs) (length net.places) ++ numbered (loop_row net is.holds) (length net.loops) in
+      let more = numbered (place_row net.arcs) (length net.places) ++ numbered (loop_row net) (length net.loops) in
       let met = All-head (IsMet counts) entry more
-      (All-same (IsMet counts) (rows_of net is.holds) program.rows (sym is.rows) feasible) in
+      (All-same (IsMet counts) (rows_of net) program.rows (sym is.rows) feasible) in
       let sum = row_sum-terms counts (λ column. one_if (column == 1)) (length net.arcs) in
       let number = item_at-within net.arcs 1 nested.entered.first.0 nested.entered.first.1 in
       let one = total_to-one (λ j. one_if (j == 1) *ℤ pos (counts j)) (length net.arcs) 1 number.from_one number.within
@@ -239,39 +240,39 @@ module _ (net : Net) (price : ℕ → ℕ) (program : Program) (nested : IsNeste
       (λ j low high. value_at-arc net price program is j (low, high) ∙ value-target (item_at j net.arcs))
 
   -- Their value is at most the crude bound.
-  pub feasible-crude : IsFeasible program counts → value_of program counts ≤ℤ pos (crude_of net is.holds price)
+  pub feasible-crude : IsFeasible program counts → value_of program counts ≤ℤ pos (crude_of net price)
   feasible-crude feasible =
       let meets = meets-of (rows-behind feasible) in
       let d : Place = record { context = 0; address = 0; scope = 0 } in
       let marks = marks-into net nested.numbers counts (λ q. pos (price q)) (ap pos is.outside) in
       let begun = once feasible in
       let order = total_to-order (λ q. pos (price q) *ℤ flow net counts (into net q))
-      (λ q. pos (price q * turns_at net is.holds q)) (length net.places)
+      (λ q. pos (price q * turns_at net q)) (length net.places)
       (λ q low high.
-      let capped = place-capped net nested is.holds is.told counts meets q (get_or net.places (q - 1) d)
+      let capped = place-capped net nested counts meets q (get_or net.places (q - 1) d)
       (item_at-there net.places q d (record { from_one = low; within = high })) in
-      let same : counts 1 * turns_at net is.holds q ≡ 1 * turns_at net is.holds q =
-      ap (λ (n : ℕ). n * turns_at net is.holds q) begun in
-      let most : flow net counts (into net q) ≤ℤ pos (turns_at net is.holds q) = omega (arith, ints, capped, same) in
-      mul-order (pos (price q)) (flow net counts (into net q)) (pos (turns_at net is.holds q)) (omega (arith, ints)) most) in
-      let sum = total_to-pos (λ q. price q * turns_at net is.holds q) (length net.places) in
+      let same : counts 1 * turns_at net q ≡ 1 * turns_at net q =
+      ap (λ (n : ℕ). n * turns_at net q) begun in
+      let most : flow net counts (into net q) ≤ℤ pos (turns_at net q) = omega (arith, ints, capped, same) in
+      mul-order (pos (price q)) (flow net counts (into net q)) (pos (turns_at net q)) (omega (arith, ints)) most) in
+      let sum = total_to-pos (λ q. price q * turns_at net q) (length net.places) in
       let value = value-flow in
       omega (arith, ints)
 
   cap-small : (found : Option NetArc) → ((arc : NetArc) → found ≡ Some arc → arc.from ≤ length net.places) →
-      arc_cap net is.holds found ≤ crude_limit
+      arc_cap net found ≤ crude_limit
   cap-small None within = omega arith
   cap-small (Some arc) within =
-      elim (cases_eq arc.from 0) as (λ _. arc_cap net is.holds (Some arc) ≤ crude_limit) [
-        | inl outside ↦ let cap = cap-outside net is.holds arc outside in omega (arith, cap)
+      elim (cases_eq arc.from 0) as (λ _. arc_cap net (Some arc) ≤ crude_limit) [
+        | inl outside ↦ let cap = cap-outside net arc outside in omega (arith, cap)
         | inr inside ↦
             let number : IsNumberOf net.places arc.from =
             record { from_one = omega (arith, inside); within = within arc refl } in
-            let part = sum_to-part (λ q. price q * turns_at net is.holds q) (length net.places) arc.from number.from_one
+            let part = sum_to-part (λ q. price q * turns_at net q) (length net.places) arc.from number.from_one
             number.within in
-            let some : turns_at net is.holds arc.from * 1 ≤ turns_at net is.holds arc.from * price arc.from =
-            mul-le-mul_left (turns_at net is.holds arc.from) (is.costly arc.from number) in
-            let cap = cap-inside net is.holds arc inside in
+            let some : turns_at net arc.from * 1 ≤ turns_at net arc.from * price arc.from =
+            mul-le-mul_left (turns_at net arc.from) (is.costly arc.from number) in
+            let cap = cap-inside net arc inside in
             omega (arith, part, some, cap, is.low)
       ]
 

@@ -4,6 +4,7 @@ use Rattle.std.proofs.lemmas.Int.{ints}
 use Rattle.std.proofs.lemmas.List.{length-append}
 use Rattle.std.proofs.lemmas.List.Elements.{All-append, All-cons, All-nil, All-same}
 use Rattle.flow_net.specs.Numbers.{item_at}
+use Rattle.flow_net.specs.Scopes.{holds_of}
 use Rattle.flow_net.specs.declared.net.LoopInst.{LoopInst}
 use Rattle.flow_net.specs.declared.net.Net.{Net}
 use Rattle.flow_net.specs.declared.net.NetArc.{NetArc}
@@ -98,12 +99,12 @@ small-loop_row arcs held (Some inst) few bounds =
     (λ column. small-loop inst.bound (comes_to inst.header (item_at column arcs))
     (is_entering held inst.header (item_at column arcs)) (bounds inst refl))
 
-small-rows : (net : Net) (holds : ℕ → ℕ → Bool) → length net.arcs ≤ 2 ^ 28 →
-    All (λ (inst : LoopInst). inst.bound < 2 ^ 32) net.loops → All (IsSmallRow (length net.arcs)) (rows_of net holds)
-small-rows net holds few bounds =
+small-rows : (net : Net) → length net.arcs ≤ 2 ^ 28 →
+    All (λ (inst : LoopInst). inst.bound < 2 ^ 32) net.loops → All (IsSmallRow (length net.arcs)) (rows_of net)
+small-rows net few bounds =
     let small : Row → Type 0 = IsSmallRow (length net.arcs) in
     let places = numbered (place_row net.arcs) (length net.places) in
-    let loops = numbered (loop_row net holds) (length net.loops) in
+    let loops = numbered (loop_row net) (length net.loops) in
     All-cons small (entry_row (length net.arcs)) (places ++ loops)
     (small-row true (λ column. one_if (column == 1)) (length net.arcs) 1 few (omega arith)
     (λ column. small-one (column == 1)))
@@ -111,20 +112,20 @@ small-rows net holds few bounds =
     (numbered-all small (place_row net.arcs) (length net.places)
     (λ place low high. small-row true (place_factor net.arcs place) (length net.arcs) 0 few (omega arith)
     (λ column. small-place (comes_to place (item_at column net.arcs)) (goes_from place (item_at column net.arcs)))))
-    (numbered-all small (loop_row net holds) (length net.loops)
-    (λ scope low high. small-loop_row net.arcs (holds scope) (item_at scope net.loops) few
+    (numbered-all small (loop_row net) (length net.loops)
+    (λ scope low high. small-loop_row net.arcs (holds_of net scope) (item_at scope net.loops) few
     (λ inst there. item_at-all (λ (i : LoopInst). i.bound < 2 ^ 32) net.loops scope inst bounds there))))
 
-pub is-checkable : (net : Net) (holds : ℕ → ℕ → Bool) (program : Program) → length net.arcs ≤ 2 ^ 28 →
+pub is-checkable : (net : Net) (program : Program) → length net.arcs ≤ 2 ^ 28 →
     All (λ (inst : LoopInst). inst.bound < 2 ^ 32) net.loops → program.columns ≡ length net.arcs →
-    program.rows ≡ rows_of net holds → All IsSmall program.value → length program.value ≡ length net.arcs →
+    program.rows ≡ rows_of net → All IsSmall program.value → length program.value ≡ length net.arcs →
     length program.caps ≡ length net.arcs → IsCheckable program
-is-checkable net holds program few bounds columns rows small values caps =
+is-checkable net program few bounds columns rows small values caps =
     record {
       few = omega (arith, columns);
       rows = subst (λ (n : ℕ). All (IsSmallRow n) program.rows) (sym columns)
-          (All-same (IsSmallRow (length net.arcs)) program.rows (rows_of net holds) rows
-          (small-rows net holds few bounds));
+          (All-same (IsSmallRow (length net.arcs)) program.rows (rows_of net) rows
+          (small-rows net few bounds));
       values = small;
       value = values ∙ sym columns;
       caps = caps ∙ sym columns;

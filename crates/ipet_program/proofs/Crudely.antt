@@ -4,7 +4,7 @@ use Rattle.std.proofs.lemmas.List.Elements.{All-get_or}
 use Rattle.flow_net.specs.Numbers.{IsNumberOf}
 use Rattle.flow_net.specs.declared.net.Net.{Net}
 use Rattle.ipet_program.specs.Programs.{crude_limit, crude_of}
-use Rattle.ipet_program.specs.Scopes.{TellsHeld, turns_at}
+use Rattle.ipet_program.specs.Scopes.{turns_at}
 use Rattle.ipet_program.specs.Sums.{numbered}
 use Rattle.ipet_program.specs.Tables.{AreLow, IsPrice, in_128}
 use Rattle.ipet_program.proofs.Numbered.{length-numbered, numbered-get}
@@ -25,13 +25,13 @@ priced-each price n prices same all place low high =
     omega (arith, read, (All-get_or IsPrice prices (place - 1) 0 (omega (arith, count)) all).0)
 
 pub are-low : (net : Net) (price : ℕ → ℕ) → ((place : ℕ) → IsNumberOf net.places place → 1 ≤ price place) →
-    ((holds : ℕ → ℕ → Bool) → TellsHeld net holds → crude_of net holds price ≤ crude_limit) → AreLow net
-are-low net price costly low holds told place number =
+    crude_of net price ≤ crude_limit → AreLow net
+are-low net price costly low place number =
     omega (
       arith,
-      times-least (price place) (turns_at net holds place) (costly place number),
-      sum_to-least (length net.places) (λ p. price p * turns_at net holds p) place number.from_one number.within,
-      low holds told,
+      times-least (price place) (turns_at net place) (costly place number),
+      sum_to-least (length net.places) (λ p. price p * turns_at net p) place number.from_one number.within,
+      low,
     )
 
 pub not-low : (crude all : ℕ) → crude ≡ in_128 all → crude_limit < crude → crude_limit < all

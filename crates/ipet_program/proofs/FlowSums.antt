@@ -7,6 +7,7 @@ use lib.IntN.{ℤ, pos, ◌+ℤ◌, ◌*ℤ◌}
 use lib.Signed.{◌≤ℤ◌}
 use Rattle.flow_net.specs.Nested.{HasNumbers}
 use Rattle.flow_net.specs.Numbers.{item_at, IsNumberOf, IsNumberOrZero}
+use Rattle.flow_net.specs.Scopes.{holds_of}
 use Rattle.flow_net.specs.Visits.{target_of}
 use Rattle.flow_net.specs.declared.net.LoopInst.{LoopInst}
 use Rattle.flow_net.specs.declared.net.Net.{Net}
@@ -19,10 +20,10 @@ use Rattle.ipet_program.proofs.Totals.{total_to, total_to-none, total_to-one, to
 use Rattle.ipet_program.proofs.Whole.{mul-order_left, sum-mul}
 
 -- Counts that meet the rows of places and of loop instances.
-pub record MeetsFlow (net : Net) (holds : ℕ → ℕ → Bool) (counts : ℕ → ℕ) : Type 0 where
+pub record MeetsFlow (net : Net) (counts : ℕ → ℕ) : Type 0 where
   pub places : (place : ℕ) → IsNumberOf net.places place → IsMet counts (place_row net.arcs place)
   pub loops : (scope : ℕ) (inst : LoopInst) → item_at scope net.loops ≡ Some inst →
-      IsMet counts (loop_row_of net.arcs (holds scope) (Some inst))
+      IsMet counts (loop_row_of net.arcs (holds_of net scope) (Some inst))
 
 -- The sum over the arcs of a factor times the count.
 abbrev pub flow : Net → (ℕ → ℕ) → (ℕ → ℤ) → ℤ
@@ -54,10 +55,10 @@ flow-sum net counts f g =
     ∙ total_to-sum (λ j. f j *ℤ pos (counts j)) (λ j. g j *ℤ pos (counts j)) (length net.arcs)
 
 -- A place is left as often as it is come to.
-pub flow-kept : (net : Net) (holds : ℕ → ℕ → Bool) (counts : ℕ → ℕ) → MeetsFlow net holds counts →
+pub flow-kept : (net : Net) (counts : ℕ → ℕ) → MeetsFlow net counts →
     (place : ℕ) → IsNumberOf net.places place →
     flow net counts (into net place) ≡ flow net counts (out_of net place)
-flow-kept net holds counts meets place number =
+flow-kept net counts meets place number =
     let row : flow net counts (place_factor net.arcs place) ≡ pos 0 =
     sym (row_sum-terms counts (place_factor net.arcs place) (length net.arcs)) ∙ meets.places place number in
     let apart = flow-same net counts (into net place) (λ j. place_factor net.arcs place j +ℤ out_of net place j)
@@ -152,27 +153,27 @@ marks-out_of net numbers counts mark none =
     (item_at-all (λ (a : NetArc). IsNumberOrZero net.places a.from) net.arcs j arc numbers.starts there)))
 
 -- What comes to marked places is what leaves them.
-marks-kept : (net : Net) → HasNumbers net → (holds : ℕ → ℕ → Bool) (counts : ℕ → ℕ) →
-    MeetsFlow net holds counts → (mark : ℕ → ℤ) → mark 0 ≡ pos 0 →
+marks-kept : (net : Net) → HasNumbers net → (counts : ℕ → ℕ) →
+    MeetsFlow net counts → (mark : ℕ → ℤ) → mark 0 ≡ pos 0 →
     flow net counts (λ j. mark (target_of (item_at j net.arcs)))
     ≡ flow net counts (λ j. mark (source_of (item_at j net.arcs)))
-marks-kept net numbers holds counts meets mark none =
+marks-kept net numbers counts meets mark none =
     sym (marks-into net numbers counts mark none)
     ∙ total_to-same (λ q. mark q *ℤ flow net counts (into net q)) (λ q. mark q *ℤ flow net counts (out_of net q))
     (length net.places)
     (λ q low high. ap (λ (z : ℤ). mark q *ℤ z)
-    (flow-kept net holds counts meets q (record { from_one = low; within = high })))
+    (flow-kept net counts meets q (record { from_one = low; within = high })))
     ∙ marks-out_of net numbers counts mark none
 
 -- A cut: where for each arc one factor and the mark of its target are together at most the mark of its source and
 -- another factor, the sum with the one is at most the sum with the other.
-pub cut : (net : Net) → HasNumbers net → (holds : ℕ → ℕ → Bool) (counts : ℕ → ℕ) →
-    MeetsFlow net holds counts → (mark : ℕ → ℤ) → mark 0 ≡ pos 0 → (less more : ℕ → ℤ) →
+pub cut : (net : Net) → HasNumbers net → (counts : ℕ → ℕ) →
+    MeetsFlow net counts → (mark : ℕ → ℤ) → mark 0 ≡ pos 0 → (less more : ℕ → ℤ) →
     ((j : ℕ) (arc : NetArc) → item_at j net.arcs ≡ Some arc →
     (less j +ℤ mark arc.to) ≤ℤ (mark arc.from +ℤ more j)) →
     flow net counts less ≤ℤ flow net counts more
-cut net numbers holds counts meets mark none less more each =
-    let kept = marks-kept net numbers holds counts meets mark none in
+cut net numbers counts meets mark none less more each =
+    let kept = marks-kept net numbers counts meets mark none in
     let left = flow-sum net counts less (λ j. mark (target_of (item_at j net.arcs))) in
     let right = flow-sum net counts (λ j. mark (source_of (item_at j net.arcs))) more in
     let order = flow-order net counts (λ j. less j +ℤ mark (target_of (item_at j net.arcs)))

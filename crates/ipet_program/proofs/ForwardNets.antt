@@ -103,7 +103,6 @@ module _ (net : Net) (is : IsForward net) where
       record {
         first = (get_or net.arcs (1 - 1) none, there, arc.first refl, arc.entered (arc.first refl));
         only = λ number arc at from. (arc_of number arc at).only from;
-        left = (is.left.number, (is.left.arc, is.left.there, is.left.to));
         reached = λ place number. run-to (place + 1) place (omega arith) number;
       }
 
@@ -148,6 +147,7 @@ module _ (net : Net) (is : IsForward net) where
         numbers = numbers_by;
         scopes = is.scopes;
         entered = entered_by;
+        left = (is.left.number, (is.left.arc, is.left.there, is.left.to));
         held = λ scope inst there.
             let header = header_place scope inst there in
             record {

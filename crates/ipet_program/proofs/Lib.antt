@@ -8,6 +8,7 @@ pub mod CertificateLaw
 pub mod Numbered
 pub mod Terms
 pub mod RunSums
+pub mod Entering
 pub mod RunCounts
 pub mod SumLemmas
 pub mod WeightLemmas

@@ -5,6 +5,7 @@ use Rattle.std.proofs.lemmas.Bool.Decides.{Decides-eqb}
 use Rattle.std.proofs.lemmas.Int.{ints}
 use Rattle.flow_net.specs.Nested.{IsNested}
 use Rattle.flow_net.specs.Numbers.{IsNumberOf, item_at}
+use Rattle.flow_net.specs.Scopes.{holds_of}
 use Rattle.flow_net.specs.declared.net.LoopInst.{LoopInst}
 use Rattle.flow_net.specs.declared.net.Net.{Net}
 use Rattle.flow_net.specs.declared.net.NetArc.{NetArc}
@@ -88,38 +89,38 @@ part-there bound true out e = refl
 part-there bound false out e = cc
 
 -- The part of an arc in the row of each loop instance, by the one that has its end as its header.
-module _ (net : Net) (holds : ℕ → ℕ → Bool) (arc : NetArc) (number : ℕ) (is : IsLoopAt net arc.to number) where
+module _ (net : Net) (arc : NetArc) (number : ℕ) (is : IsLoopAt net arc.to number) where
   pub part-elsewhere : (scope : ℕ) (found : Option LoopInst) → item_at scope net.loops ≡ found →
-      (scope ≡ number → ⊥) → loop_part (holds scope) arc found ≡ pos 0
+      (scope ≡ number → ⊥) → loop_part (holds_of net scope) arc found ≡ pos 0
   part-elsewhere scope None there differ = refl
   part-elsewhere scope (Some inst) there differ =
-      part-other inst.bound (arc.to == inst.header) (not (holds scope arc.from))
+      part-other inst.bound (arc.to == inst.header) (not (holds_of net scope arc.from))
       (not_told (arc.to == inst.header)
       (λ e. differ ((is.only scope inst there).0 (sym ((Decides-eqb arc.to inst.header).0 e)))))
 
   pub part-own : (inst : LoopInst) → item_at number net.loops ≡ Some inst →
-      loop_part (holds number) arc (Some inst) ≡ pos 1 -ℤ pos inst.bound *ℤ one_if (not (holds number arc.from))
+      loop_part (holds_of net number) arc (Some inst) ≡ pos 1 -ℤ pos inst.bound *ℤ one_if (not (holds_of net number arc.from))
   part-own inst there =
-      part-there inst.bound (arc.to == inst.header) (not (holds number arc.from))
+      part-there inst.bound (arc.to == inst.header) (not (holds_of net number arc.from))
       ((Decides-eqb arc.to inst.header).1 (sym ((is.only number inst there).1 refl)))
 
   -- Rows that got the arc's term.
   pub grown-loop : (row : ℕ → Row) (column n : ℕ) (factor : ℤ) (inst : LoopInst) →
       item_at number net.loops ≡ Some inst →
-      factor ≡ pos 1 -ℤ pos inst.bound *ℤ one_if (not (holds number arc.from)) →
+      factor ≡ pos 1 -ℤ pos inst.bound *ℤ one_if (not (holds_of net number arc.from)) →
       numbered (grown row number column factor) n
-      ≡ numbered (λ scope. with_term (row scope) column (loop_part (holds scope) arc (item_at scope net.loops))) n
+      ≡ numbered (λ scope. with_term (row scope) column (loop_part (holds_of net scope) arc (item_at scope net.loops))) n
   grown-loop row column n factor inst there same =
       numbered-same (grown row number column factor)
-      (λ scope. with_term (row scope) column (loop_part (holds scope) arc (item_at scope net.loops))) n
+      (λ scope. with_term (row scope) column (loop_part (holds_of net scope) arc (item_at scope net.loops))) n
       (λ scope low high. elim (cases_eq scope number)
       as (λ _. grown row number column factor scope
-      ≡ with_term (row scope) column (loop_part (holds scope) arc (item_at scope net.loops))) [
+      ≡ with_term (row scope) column (loop_part (holds_of net scope) arc (item_at scope net.loops))) [
         | inl e ↦ subst (λ (s : ℕ). grown row number column factor s
-            ≡ with_term (row s) column (loop_part (holds s) arc (item_at s net.loops))) (sym e)
+            ≡ with_term (row s) column (loop_part (holds_of net s) arc (item_at s net.loops))) (sym e)
             (grown-there row number column factor
             ∙ ap (λ (f : ℤ). with_term (row number) column f)
-            (same ∙ sym (ap (loop_part (holds number) arc) there ∙ part-own inst there)))
+            (same ∙ sym (ap (loop_part (holds_of net number) arc) there ∙ part-own inst there)))
         | inr differ ↦ sym (grown-other row number column factor scope differ)
             ∙ sym (with_term-zero (row scope) column)
             ∙ ap (λ (f : ℤ). with_term (row scope) column f)
@@ -129,10 +130,10 @@ module _ (net : Net) (holds : ℕ → ℕ → Bool) (arc : NetArc) (number : ℕ
   -- Where the arc's end is no header, no row gets a term.
   pub grown-none : (row : ℕ → Row) (column n : ℕ) → number ≡ 0 →
       numbered row n
-      ≡ numbered (λ scope. with_term (row scope) column (loop_part (holds scope) arc (item_at scope net.loops))) n
+      ≡ numbered (λ scope. with_term (row scope) column (loop_part (holds_of net scope) arc (item_at scope net.loops))) n
   grown-none row column n none =
       numbered-same row
-      (λ scope. with_term (row scope) column (loop_part (holds scope) arc (item_at scope net.loops))) n
+      (λ scope. with_term (row scope) column (loop_part (holds_of net scope) arc (item_at scope net.loops))) n
       (λ scope low high. sym (with_term-zero (row scope) column)
       ∙ ap (λ (f : ℤ). with_term (row scope) column f)
       (sym (part-elsewhere scope (item_at scope net.loops) refl (λ e. omega (arith, e, none, low)))))
@@ -151,15 +152,15 @@ row-next arcs held index arc (Some inst) there =
     (sym there)
     ∙ sym (terms_of-more (loop_factor arcs held inst) index))
 
-pub loop_rows-next : (net : Net) (holds : ℕ → ℕ → Bool) (index n : ℕ) (arc : NetArc) →
+pub loop_rows-next : (net : Net) (index n : ℕ) (arc : NetArc) →
     item_at (index + 1) net.arcs ≡ Some arc →
-    numbered (λ scope. with_term (loop_row_to net holds index scope) (index + 1)
-    (loop_part (holds scope) arc (item_at scope net.loops))) n
-    ≡ numbered (loop_row_to net holds (index + 1)) n
-loop_rows-next net holds index n arc there =
-    numbered-same (λ scope. with_term (loop_row_to net holds index scope) (index + 1)
-    (loop_part (holds scope) arc (item_at scope net.loops))) (loop_row_to net holds (index + 1)) n
-    (λ scope low high. row-next net.arcs (holds scope) index arc (item_at scope net.loops) there)
+    numbered (λ scope. with_term (loop_row_to net index scope) (index + 1)
+    (loop_part (holds_of net scope) arc (item_at scope net.loops))) n
+    ≡ numbered (loop_row_to net (index + 1)) n
+loop_rows-next net index n arc there =
+    numbered-same (λ scope. with_term (loop_row_to net index scope) (index + 1)
+    (loop_part (holds_of net scope) arc (item_at scope net.loops))) (loop_row_to net (index + 1)) n
+    (λ scope low high. row-next net.arcs (holds_of net scope) index arc (item_at scope net.loops) there)
 
 -- With all arcs they are the rows of the program.
 row-whole : (arcs : List NetArc) (held : ℕ → Bool) (found : Option LoopInst) →
@@ -167,11 +168,11 @@ row-whole : (arcs : List NetArc) (held : ℕ → Bool) (found : Option LoopInst)
 row-whole arcs held None = refl
 row-whole arcs held (Some inst) = refl
 
-pub loop_rows-whole : (net : Net) (holds : ℕ → ℕ → Bool) (n : ℕ) →
-    numbered (loop_row_to net holds (length net.arcs)) n ≡ numbered (loop_row net holds) n
-loop_rows-whole net holds n =
-    numbered-same (loop_row_to net holds (length net.arcs)) (loop_row net holds) n
-    (λ scope low high. row-whole net.arcs (holds scope) (item_at scope net.loops))
+pub loop_rows-whole : (net : Net) (n : ℕ) →
+    numbered (loop_row_to net (length net.arcs)) n ≡ numbered (loop_row net) n
+loop_rows-whole net n =
+    numbered-same (loop_row_to net (length net.arcs)) (loop_row net) n
+    (λ scope low high. row-whole net.arcs (holds_of net scope) (item_at scope net.loops))
 
 -- Without arcs they have no terms.
 row-first : (arcs : List NetArc) (held : ℕ → Bool) (found : Option LoopInst) →
@@ -179,8 +180,8 @@ row-first : (arcs : List NetArc) (held : ℕ → Bool) (found : Option LoopInst)
 row-first arcs held None = refl
 row-first arcs held (Some inst) = refl
 
-pub loop_rows-first : (net : Net) (holds : ℕ → ℕ → Bool) (n : ℕ) →
-    numbered (λ (number : ℕ). empty_row false) n ≡ numbered (loop_row_to net holds 0) n
-loop_rows-first net holds n =
-    numbered-same (λ (number : ℕ). empty_row false) (loop_row_to net holds 0) n
-    (λ scope low high. row-first net.arcs (holds scope) (item_at scope net.loops))
+pub loop_rows-first : (net : Net) (n : ℕ) →
+    numbered (λ (number : ℕ). empty_row false) n ≡ numbered (loop_row_to net 0) n
+loop_rows-first net n =
+    numbered-same (λ (number : ℕ). empty_row false) (loop_row_to net 0) n
+    (λ scope low high. row-first net.arcs (holds_of net scope) (item_at scope net.loops))

@@ -8,7 +8,7 @@ use lib.IntN.{ℤ, pos, ◌+ℤ◌, ◌*ℤ◌}
 use lib.Signed.{◌≤ℤ◌}
 use Rattle.flow_net.specs.Nested.{IsBack, IsNested}
 use Rattle.flow_net.specs.Numbers.{item_at}
-use Rattle.flow_net.specs.Scopes.{ChainsEnd, Holds, IsWithin}
+use Rattle.flow_net.specs.Scopes.{ChainsEnd, Holds, holds_of, IsWithin}
 use Rattle.flow_net.specs.Scopes.IsWithin.{here, out}
 use Rattle.flow_net.specs.declared.net.LoopInst.{LoopInst}
 use Rattle.flow_net.specs.declared.net.Net.{Net}
@@ -17,9 +17,9 @@ use Rattle.flow_net.specs.declared.net.Place.{Place}
 use Rattle.flow_net.proofs.Headers.{header-scope}
 use Rattle.flow_net.proofs.Holds.{holds-place, holds-through}
 use Rattle.flow_net.proofs.Numbers.{item_at-same}
+use Rattle.flow_net.proofs.Round.{holds_of-tells}
 use Rattle.flow_net.proofs.Within.{within-cases}
 use Rattle.ipet_program.specs.Rows.{comes_to, is_entering, loop_factor, one_if}
-use Rattle.ipet_program.specs.Scopes.{TellsHeld}
 use Rattle.ipet_program.proofs.FlowSums.{flow, flow-same, flow-sum, into, MeetsFlow}
 use Rattle.ipet_program.proofs.ScopeFlow.{AreForwardTo, IsHigh}
 use Rattle.ipet_program.proofs.Terms.{row_sum-terms}
@@ -114,8 +114,8 @@ forward-into net nested number place there plain =
     ]
 
 -- The arcs that enter a loop.
-abbrev pub enter : Net → (ℕ → ℕ → Bool) → ℕ → LoopInst → ℕ → ℤ
-enter net holds scope inst j = one_if (is_entering (holds scope) inst.header (item_at j net.arcs))
+abbrev pub enter : Net → ℕ → LoopInst → ℕ → ℤ
+enter net scope inst j = one_if (is_entering (holds_of net scope) inst.header (item_at j net.arcs))
 
 enter-cases : (header to : ℕ) (inside : Bool) →
     (one_if ((to == header) && not inside) ≡ pos 0)
@@ -141,16 +141,16 @@ true-false : (b : Bool) → b ≡ true → b ≡ false → ⊥
 true-false true e f = cc
 true-false false e f = cc
 
-pub forward-enter : (net : Net) (nested : IsNested net) (holds : ℕ → ℕ → Bool) → TellsHeld net holds →
-    (scope : ℕ) (inst : LoopInst) → item_at scope net.loops ≡ Some inst →
-    AreForwardTo net inst.header (enter net holds scope inst)
-forward-enter net nested holds told scope inst there =
+pub forward-enter : (net : Net) (nested : IsNested net) (scope : ℕ) (inst : LoopInst) →
+    item_at scope net.loops ≡ Some inst →
+    AreForwardTo net inst.header (enter net scope inst)
+forward-enter net nested scope inst there =
     λ j arc at.
-    let value : enter net holds scope inst j ≡ one_if ((arc.to == inst.header) && not (holds scope arc.from)) =
-    ap (λ (found : Option NetArc). one_if (is_entering (holds scope) inst.header found)) at in
-    elim (enter-cases inst.header arc.to (holds scope arc.from))
-    as (λ _. (enter net holds scope inst j ≡ pos 0)
-    ⊎ ((enter net holds scope inst j ≡ pos 1) × (arc.to ≡ inst.header) × (IsBack net arc → ⊥))) [
+    let value : enter net scope inst j ≡ one_if ((arc.to == inst.header) && not (holds_of net scope arc.from)) =
+    ap (λ (found : Option NetArc). one_if (is_entering (holds_of net scope) inst.header found)) at in
+    elim (enter-cases inst.header arc.to (holds_of net scope arc.from))
+    as (λ _. (enter net scope inst j ≡ pos 0)
+    ⊎ ((enter net scope inst j ≡ pos 1) × (arc.to ≡ inst.header) × (IsBack net arc → ⊥))) [
       | inl none ↦ inl (value ∙ none)
       | inr one ↦ inr (
         value ∙ one.0,
@@ -158,26 +158,26 @@ forward-enter net nested holds told scope inst there =
         λ back.
             let own : scope ≡ back.scope = nested.distinct scope back.scope inst back.inst there back.there
             (sym one.1 ∙ back.header) in
-            true-false (holds scope arc.from)
-            ((told scope arc.from).1 (subst (λ (n : ℕ). Holds net n arc.from) (sym own) back.held)) one.2,
+            true-false (holds_of net scope arc.from)
+            ((holds_of-tells net nested.scopes scope arc.from).1 (subst (λ (n : ℕ). Holds net n arc.from) (sym own) back.held)) one.2,
       )
     ]
 
 -- A header is come to at most bound times as often as its loop is entered.
-pub header-bound : (net : Net) (holds : ℕ → ℕ → Bool) (counts : ℕ → ℕ) → MeetsFlow net holds counts →
+pub header-bound : (net : Net) (counts : ℕ → ℕ) → MeetsFlow net counts →
     (scope : ℕ) (inst : LoopInst) → item_at scope net.loops ≡ Some inst →
-    flow net counts (into net inst.header) ≤ℤ (pos inst.bound *ℤ flow net counts (enter net holds scope inst))
-header-bound net holds counts meets scope inst there =
-    let factor = loop_factor net.arcs (holds scope) inst in
+    flow net counts (into net inst.header) ≤ℤ (pos inst.bound *ℤ flow net counts (enter net scope inst))
+header-bound net counts meets scope inst there =
+    let factor = loop_factor net.arcs (holds_of net scope) inst in
     let row = meets.loops scope inst there in
     let sum : flow net counts factor ≡ _ = sym (row_sum-terms counts factor (length net.arcs)) in
     let apart = flow-same net counts (into net inst.header)
-    (λ j. factor j +ℤ pos inst.bound *ℤ enter net holds scope inst j) (λ j low high. omega (arith, ints)) in
-    let two = flow-sum net counts factor (λ j. pos inst.bound *ℤ enter net holds scope inst j) in
-    let scaled : flow net counts (λ j. pos inst.bound *ℤ enter net holds scope inst j)
-    ≡ pos inst.bound *ℤ flow net counts (enter net holds scope inst) =
-    total_to-same (λ j. (pos inst.bound *ℤ enter net holds scope inst j) *ℤ pos (counts j))
-    (λ j. pos inst.bound *ℤ (enter net holds scope inst j *ℤ pos (counts j))) (length net.arcs)
-    (λ j low high. mul-assoc (pos inst.bound) (enter net holds scope inst j) (pos (counts j)))
-    ∙ total_to-scaled (pos inst.bound) (λ j. enter net holds scope inst j *ℤ pos (counts j)) (length net.arcs) in
+    (λ j. factor j +ℤ pos inst.bound *ℤ enter net scope inst j) (λ j low high. omega (arith, ints)) in
+    let two = flow-sum net counts factor (λ j. pos inst.bound *ℤ enter net scope inst j) in
+    let scaled : flow net counts (λ j. pos inst.bound *ℤ enter net scope inst j)
+    ≡ pos inst.bound *ℤ flow net counts (enter net scope inst) =
+    total_to-same (λ j. (pos inst.bound *ℤ enter net scope inst j) *ℤ pos (counts j))
+    (λ j. pos inst.bound *ℤ (enter net scope inst j *ℤ pos (counts j))) (length net.arcs)
+    (λ j low high. mul-assoc (pos inst.bound) (enter net scope inst j) (pos (counts j)))
+    ∙ total_to-scaled (pos inst.bound) (λ j. enter net scope inst j *ℤ pos (counts j)) (length net.arcs) in
     omega (arith, ints)

@@ -9,21 +9,23 @@ use lib.IntN.{ℤ, pos, ◌-ℤ◌, ◌*ℤ◌}
 use lib.Signed.{◌≤ℤ◌}
 use Rattle.flow_net.specs.Numbers.{item_at}
 use Rattle.flow_net.specs.Paths.{IsPath, IsRunPath}
-use Rattle.flow_net.specs.Scopes.{Holds}
+use Rattle.flow_net.specs.Entering.Enters.{loop}
+use Rattle.flow_net.specs.Scopes.{HasScopes, Holds, holds_of}
 use Rattle.flow_net.specs.Visits.{KeepsBound, KeepsBounds, target_of, targets_along}
 use Rattle.flow_net.specs.Visits.KeepsBound.{passes, enters, returns}
 use Rattle.flow_net.specs.declared.net.LoopInst.{LoopInst}
 use Rattle.flow_net.specs.declared.net.Net.{Net}
 use Rattle.flow_net.specs.declared.net.NetArc.{NetArc}
 use Rattle.flow_net.proofs.Numbers.{item_at-same}
+use Rattle.flow_net.proofs.Round.{holds_of-tells}
 use Rattle.net_model.specs.Moments.{arcs_of, Moment}
 use Rattle.ipet_program.specs.Counts.{arc_cost, counts_of, cycles_along, IsFeasible, IsMet, path_cost, row_sum, value_of}
 use Rattle.ipet_program.specs.Leaves.{value_at, value_or_zero}
 use Rattle.ipet_program.specs.Programs.{arc_value, IsProgramOf}
 use Rattle.ipet_program.specs.Rows.{comes_to, entry_row, goes_from, is_entering, loop_factor, loop_row, loop_row_of, one_if, place_factor, place_row, rows_of, terms_of}
-use Rattle.ipet_program.specs.Scopes.{TellsHeld}
 use Rattle.ipet_program.specs.Sums.{numbered}
 use Rattle.ipet_program.specs.declared.program.Program.{Program}
+use Rattle.ipet_program.proofs.Entering.{is_entering-enters}
 use Rattle.ipet_program.proofs.Exchange.{IsColumn}
 use Rattle.ipet_program.proofs.Numbered.{numbered-all, item_at-numbered, length-numbered}
 use Rattle.ipet_program.proofs.RunSums.{along, chain-columns, chain-of_run, counts-along, IsChain}
@@ -78,7 +80,7 @@ pub record Passes (net : Net) (scope : ℕ) (inst : LoopInst) (left to : ℕ) (m
   pub elsewhere : to ≡ inst.header → ⊥
   pub rest : KeepsBound net scope inst to left more
 
-pub record Enters (net : Net) (scope : ℕ) (inst : LoopInst) (from to : ℕ) (more : List ℕ) : Type 0 where
+pub record GoesIn (net : Net) (scope : ℕ) (inst : LoopInst) (from to : ℕ) (more : List ℕ) : Type 0 where
   pub outside : Holds net scope from → ⊥
   pub header : to ≡ inst.header
   pub turns : ℕ
@@ -95,7 +97,7 @@ pub record Returns (net : Net) (scope : ℕ) (inst : LoopInst) (from left to : �
 keeps-first : (net : Net) (scope : ℕ) (inst : LoopInst) (from left to : ℕ) (more : List ℕ) →
     KeepsBound net scope inst from left (to ∷ more) →
     Passes net scope inst left to more
-    ⊎ (Enters net scope inst from to more ⊎ Returns net scope inst from left to more)
+    ⊎ (GoesIn net scope inst from to more ⊎ Returns net scope inst from left to more)
 keeps-first net scope inst from left to more (passes _ _ _ _ elsewhere rest) =
     inl (record { elsewhere = elsewhere; rest = rest })
 keeps-first net scope inst from left _ more (enters _ _ turns _ outside bound rest) =
@@ -126,13 +128,13 @@ factor-header header bound to inside same =
 
 -- From one entering on, a header is visited at most bound times as often as its instance is entered anew, and
 -- as often as is left of the first one.
-loop-along : (net : Net) (holds : ℕ → ℕ → Bool) → TellsHeld net holds → (scope : ℕ) (inst : LoopInst)
+loop-along : (net : Net) → HasScopes net → (scope : ℕ) (inst : LoopInst) → item_at scope net.loops ≡ Some inst →
     (from left : ℕ) (numbers : List ℕ) (to : ℕ) → IsChain net.arcs from numbers to →
     KeepsBound net scope inst from left (targets_along net.arcs numbers) →
-    along (loop_factor net.arcs (holds scope) inst) numbers ≤ℤ pos left
-loop-along net holds told scope inst from left [] to chain keeps = omega (arith, ints)
-loop-along net holds told scope inst from left (number ∷ numbers) to chain keeps =
-    let held = holds scope in
+    along (loop_factor net.arcs (holds_of net scope) inst) numbers ≤ℤ pos left
+loop-along net scopes scope inst at from left [] to chain keeps = omega (arith, ints)
+loop-along net scopes scope inst at from left (number ∷ numbers) to chain keeps =
+    let held = holds_of net scope in
     let arc = chain.0 in
     let onward = targets_along net.arcs numbers in
     let goes : KeepsBound net scope inst from left (arc.to ∷ onward) =
@@ -141,24 +143,29 @@ loop-along net holds told scope inst from left (number ∷ numbers) to chain kee
     ap (λ (found : Option NetArc).
     one_if (comes_to inst.header found) -ℤ pos inst.bound *ℤ one_if (is_entering held inst.header found)) chain.1 in
     elim (keeps-first net scope inst from left arc.to onward goes)
-    as (λ _. along (loop_factor net.arcs (holds scope) inst) (number ∷ numbers) ≤ℤ pos left) [
+    as (λ _. along (loop_factor net.arcs (holds_of net scope) inst) (number ∷ numbers) ≤ℤ pos left) [
       | inl past ↦
-          let rest = loop-along net holds told scope inst arc.to left numbers to chain.3 past.rest in
+          let rest = loop-along net scopes scope inst at arc.to left numbers to chain.3 past.rest in
           let none = factor-elsewhere inst.header inst.bound arc.to (held arc.from) past.elsewhere in
           omega (arith, ints)
       | inr (inl into) ↦
-          let rest = loop-along net holds told scope inst arc.to into.turns numbers to chain.3 into.rest in
-          let factor = factor-header inst.header inst.bound arc.to (held arc.from) into.header in
-          let outside : held arc.from ≡ false =
-          not-held (held arc.from) (λ e. into.outside (subst (Holds net scope) chain.2 ((told scope arc.from).0 e))) in
-          let entered : pos inst.bound *ℤ one_if (not (held arc.from)) ≡ pos inst.bound *ℤ pos 1 =
-          ap (λ (test : Bool). pos inst.bound *ℤ one_if (not test)) outside in
+          let rest = loop-along net scopes scope inst at arc.to into.turns numbers to chain.3 into.rest in
+          let comes : (arc.to == inst.header) ≡ true = (let header = into.header in grind (arith, nat_tests)) in
+          let entered = (is_entering-enters net scopes scope number inst at).1
+          (loop scope number inst arc at chain.1 into.header
+          (λ inside. into.outside (subst (Holds net scope) chain.2 inside))) in
+          let factor : loop_factor net.arcs held inst number ≡ pos 1 -ℤ pos inst.bound *ℤ pos 1 =
+          ap (λ (test : Bool). one_if (comes_to inst.header (item_at number net.arcs)) -ℤ pos inst.bound *ℤ one_if test)
+          entered
+          ∙ ap (λ (found : Option NetArc). one_if (comes_to inst.header found) -ℤ pos inst.bound *ℤ pos 1) chain.1
+          ∙ ap (λ (test : Bool). one_if test -ℤ pos inst.bound *ℤ pos 1) comes in
           let many = into.bound in
           omega (arith, ints)
       | inr (inr back) ↦
-          let rest = loop-along net holds told scope inst arc.to back.fewer numbers to chain.3 back.rest in
+          let rest = loop-along net scopes scope inst at arc.to back.fewer numbers to chain.3 back.rest in
           let factor = factor-header inst.header inst.bound arc.to (held arc.from) back.header in
-          let inside : held arc.from ≡ true = (told scope arc.from).1 (subst (Holds net scope) (sym chain.2) back.inside) in
+          let inside : held arc.from ≡ true =
+          (holds_of-tells net scopes scope arc.from).1 (subst (Holds net scope) (sym chain.2) back.inside) in
           let entered : pos inst.bound *ℤ one_if (not (held arc.from)) ≡ pos inst.bound *ℤ pos 0 =
           ap (λ (test : Bool). pos inst.bound *ℤ one_if (not test)) inside in
           let many = back.turns in
@@ -171,25 +178,25 @@ row-along : (factor : ℕ → ℤ) (n : ℕ) (moments : List Moment) → All (Is
 row-along factor n moments within =
     row_sum-terms (counts_of moments) factor n ∙ counts-along n factor moments within
 
-loop-met : (net : Net) (holds : ℕ → ℕ → Bool) → TellsHeld net holds → (moments : List Moment) →
+loop-met : (net : Net) → HasScopes net → (moments : List Moment) →
     IsChain net.arcs 0 (arcs_of moments) 0 → KeepsBounds net (targets_along net.arcs (arcs_of moments)) →
     (scope : ℕ) (found : Option LoopInst) → item_at scope net.loops ≡ found →
-    IsMet (counts_of moments) (loop_row_of net.arcs (holds scope) found)
-loop-met net holds told moments chain keeps scope None there = omega (arith, ints)
-loop-met net holds told moments chain keeps scope (Some inst) there =
-    let sum = row-along (loop_factor net.arcs (holds scope) inst) (length net.arcs) moments
+    IsMet (counts_of moments) (loop_row_of net.arcs (holds_of net scope) found)
+loop-met net scopes moments chain keeps scope None there = omega (arith, ints)
+loop-met net scopes moments chain keeps scope (Some inst) there =
+    let sum = row-along (loop_factor net.arcs (holds_of net scope) inst) (length net.arcs) moments
     (chain-columns net.arcs 0 (arcs_of moments) 0 chain) in
-    let most = loop-along net holds told scope inst 0 0 (arcs_of moments) 0 chain (keeps scope inst there) in
+    let most = loop-along net scopes scope inst there 0 0 (arcs_of moments) 0 chain (keeps scope inst there) in
     omega (arith, ints)
 
-rows-met : (net : Net) (holds : ℕ → ℕ → Bool) → TellsHeld net holds → (moments : List Moment) →
+rows-met : (net : Net) → HasScopes net → (moments : List Moment) →
     IsRunPath net.arcs (arcs_of moments) 0 → KeepsBounds net (targets_along net.arcs (arcs_of moments)) →
-    All (IsMet (counts_of moments)) (rows_of net holds)
-rows-met net holds told moments path keeps =
+    All (IsMet (counts_of moments)) (rows_of net)
+rows-met net scopes moments path keeps =
     let chain = chain-of_run net.arcs (arcs_of moments) 0 path in
     let within = chain-columns net.arcs 0 (arcs_of moments) 0 chain in
     let places = numbered (place_row net.arcs) (length net.places) in
-    let loops = numbered (loop_row net holds) (length net.loops) in
+    let loops = numbered (loop_row net) (length net.loops) in
     All-cons (IsMet (counts_of moments)) (entry_row (length net.arcs)) (places ++ loops)
     (row-along (λ column. one_if (column == 1)) (length net.arcs) moments within
     ∙ entry-run net.arcs (arcs_of moments) 0 path)
@@ -198,8 +205,8 @@ rows-met net holds told moments path keeps =
     (λ place low high. row-along (place_factor net.arcs place) (length net.arcs) moments within
     ∙ place-along net.arcs place 0 (arcs_of moments) 0 chain
     ∙ omega (arith, ints)))
-    (numbered-all (IsMet (counts_of moments)) (loop_row net holds) (length net.loops)
-    (λ scope low high. loop-met net holds told moments chain keeps scope (item_at scope net.loops) refl)))
+    (numbered-all (IsMet (counts_of moments)) (loop_row net) (length net.loops)
+    (λ scope low high. loop-met net scopes moments chain keeps scope (item_at scope net.loops) refl)))
 
 -- ---- The value.
 value-cost : (price : ℕ → ℕ) (found : Option NetArc) → arc_value price found ≡ pos (arc_cost price found)
@@ -252,13 +259,13 @@ pub record AreRunCounts (net : Net) (price : ℕ → ℕ) (program : Program) (m
 
 -- A run that goes from arc 1 to an arc to 0 and keeps the bounds of the loops has counts that are feasible for
 -- the program of the net, and their value is its cycles.
-pub run-counts : (net : Net) (price : ℕ → ℕ) (program : Program) → IsProgramOf net price program →
+pub run-counts : (net : Net) → HasScopes net → (price : ℕ → ℕ) (program : Program) → IsProgramOf net price program →
     (moments : List Moment) → IsRunPath net.arcs (arcs_of moments) 0 →
     KeepsBounds net (targets_along net.arcs (arcs_of moments)) → AreRunCounts net price program moments
-run-counts net price program is moments path keeps =
+run-counts net scopes price program is moments path keeps =
     record {
-      feasible = All-same (IsMet (counts_of moments)) program.rows (rows_of net is.holds) is.rows
-          (rows-met net is.holds is.told moments path keeps);
+      feasible = All-same (IsMet (counts_of moments)) program.rows (rows_of net) is.rows
+          (rows-met net scopes moments path keeps);
       value = value-run net price program is moments
           (chain-columns net.arcs 0 (arcs_of moments) 0 (chain-of_run net.arcs (arcs_of moments) 0 path));
     }

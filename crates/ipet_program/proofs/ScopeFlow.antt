@@ -84,8 +84,8 @@ forward-low net nested scope place j arc there held same forward from =
     record { held = from; low = inl (omega (arith, up, ap rank same)) }
 
 -- ---- In a loop instance.
-module _ (net : Net) (nested : IsNested net) (holds : ℕ → ℕ → Bool) (counts : ℕ → ℕ)
-    (meets : MeetsFlow net holds counts) (scope : ℕ) (inst : LoopInst) (at : item_at scope net.loops ≡ Some inst) where
+module _ (net : Net) (nested : IsNested net) (counts : ℕ → ℕ)
+    (meets : MeetsFlow net counts) (scope : ℕ) (inst : LoopInst) (at : item_at scope net.loops ≡ Some inst) where
   to-header : (limit j : ℕ) (arc : NetArc) → item_at j net.arcs ≡ Some arc →
       IsLow net nested.ranks.rank scope limit arc.to →
       (IsLow net nested.ranks.rank scope limit arc.from → ⊥) → arc.to ≡ inst.header
@@ -117,7 +117,7 @@ module _ (net : Net) (nested : IsNested net) (holds : ℕ → ℕ → Bool) (cou
       let rank = nested.ranks.rank in
       let limit = rank place in
       let tell = λ (q : ℕ). low-decided net rank scope limit q nested.scopes.chains in
-      cut net nested.numbers holds counts meets (λ q. mark_of (tell q))
+      cut net nested.numbers counts meets (λ q. mark_of (tell q))
       (mark-none (tell 0) (λ low. holds-zero net scope low.held)) factor (into net inst.header)
       (λ j arc there. mark-order (factor j) (into net inst.header j) (tell arc.to) (tell arc.from)
       (one_if-low (comes_to inst.header (item_at j net.arcs)))
@@ -140,8 +140,8 @@ module _ (net : Net) (nested : IsNested net) (holds : ℕ → ℕ → Bool) (cou
       (λ low free. into-one j arc there (to-header limit j arc there low free)))
 
 -- ---- In the run.
-module _ (net : Net) (nested : IsNested net) (holds : ℕ → ℕ → Bool) (counts : ℕ → ℕ)
-    (meets : MeetsFlow net holds counts) where
+module _ (net : Net) (nested : IsNested net) (counts : ℕ → ℕ)
+    (meets : MeetsFlow net counts) where
   from-zero : (limit j : ℕ) (arc : NetArc) → item_at j net.arcs ≡ Some arc → (held : (place : ℕ) → 0 < place →
       place ≤ length net.places → Holds net 0 place) → arc.from ≤ length net.places →
       IsLow net nested.ranks.rank 0 limit arc.to →
@@ -171,7 +171,7 @@ module _ (net : Net) (nested : IsNested net) (holds : ℕ → ℕ → Bool) (cou
       let rank = nested.ranks.rank in
       let limit = rank place in
       let tell = λ (q : ℕ). low-decided net rank 0 limit q nested.scopes.chains in
-      cut net nested.numbers holds counts meets (λ q. mark_of (tell q))
+      cut net nested.numbers counts meets (λ q. mark_of (tell q))
       (mark-none (tell 0) (λ low. holds-zero net 0 low.held)) factor (out_of net 0)
       (λ j arc there. mark-order (factor j) (out_of net 0 j) (tell arc.to) (tell arc.from)
       (one_if-low (goes_from 0 (item_at j net.arcs)))

@@ -5,6 +5,7 @@ use Rattle.std.proofs.Math.Nat.{mul-le-mul_left}
 use Rattle.std.proofs.lemmas.Bool.{cases_eq}
 use Rattle.flow_net.specs.Nested.{IsNested}
 use Rattle.flow_net.specs.Numbers.{item_at}
+use Rattle.flow_net.specs.Scopes.{holds_of}
 use Rattle.flow_net.specs.declared.net.LoopInst.{LoopInst}
 use Rattle.flow_net.specs.declared.net.Net.{Net}
 use Rattle.flow_net.proofs.Numbers.{item_at-all}
@@ -50,8 +51,8 @@ product-step (suc n) f g at b low high h is one =
     ]
 
 -- The factor of a scope at a place.
-abbrev pub turn : Net → (ℕ → ℕ → Bool) → ℕ → ℕ → ℕ
-turn net holds place scope = if holds scope place then bound_of (item_at scope net.loops) else 1
+abbrev pub turn : Net → ℕ → ℕ → ℕ
+turn net place scope = if holds_of net scope place then bound_of (item_at scope net.loops) else 1
 
 bound-positive : (net : Net) → IsNested net → (scope : ℕ) (found : Option LoopInst) →
     item_at scope net.loops ≡ found → 1 ≤ bound_of found
@@ -70,25 +71,25 @@ chosen-order true false n low h = absurd (let e = h refl in cc)
 chosen-order false true n low h = low
 chosen-order false false n low h = omega arith
 
-pub turn-positive : (net : Net) → IsNested net → (holds : ℕ → ℕ → Bool) (place scope : ℕ) →
-    1 ≤ turn net holds place scope
-turn-positive net nested holds place scope =
-    chosen-positive (holds scope place) (bound_of (item_at scope net.loops))
+pub turn-positive : (net : Net) → IsNested net → (place scope : ℕ) →
+    1 ≤ turn net place scope
+turn-positive net nested place scope =
+    chosen-positive (holds_of net scope place) (bound_of (item_at scope net.loops))
     (bound-positive net nested scope (item_at scope net.loops) refl)
 
-pub turn-order : (net : Net) → IsNested net → (holds : ℕ → ℕ → Bool) (place other scope : ℕ) →
-    (holds scope place ≡ true → holds scope other ≡ true) →
-    turn net holds place scope ≤ turn net holds other scope
-turn-order net nested holds place other scope h =
-    chosen-order (holds scope place) (holds scope other) (bound_of (item_at scope net.loops))
+pub turn-order : (net : Net) → IsNested net → (place other scope : ℕ) →
+    (holds_of net scope place ≡ true → holds_of net scope other ≡ true) →
+    turn net place scope ≤ turn net other scope
+turn-order net nested place other scope h =
+    chosen-order (holds_of net scope place) (holds_of net scope other) (bound_of (item_at scope net.loops))
     (bound-positive net nested scope (item_at scope net.loops) refl) h
 
-pub turn-held : (net : Net) (holds : ℕ → ℕ → Bool) (place scope : ℕ) (inst : LoopInst) →
-    item_at scope net.loops ≡ Some inst → holds scope place ≡ true → turn net holds place scope ≡ inst.bound
-turn-held net holds place scope inst there held =
+pub turn-held : (net : Net) (place scope : ℕ) (inst : LoopInst) →
+    item_at scope net.loops ≡ Some inst → holds_of net scope place ≡ true → turn net place scope ≡ inst.bound
+turn-held net place scope inst there held =
     ap (λ (test : Bool). if test then bound_of (item_at scope net.loops) else 1) held ∙ ap bound_of there
 
-pub turn-free : (net : Net) (holds : ℕ → ℕ → Bool) (place scope : ℕ) → holds scope place ≡ false →
-    turn net holds place scope ≡ 1
-turn-free net holds place scope free =
+pub turn-free : (net : Net) (place scope : ℕ) → holds_of net scope place ≡ false →
+    turn net place scope ≡ 1
+turn-free net place scope free =
     ap (λ (test : Bool). if test then bound_of (item_at scope net.loops) else 1) free

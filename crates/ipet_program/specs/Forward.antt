@@ -1,6 +1,7 @@
 -- Nets without accesses whose places' numbers rise along each arc but the back arcs. They are nested (`nested-forward`
 -- of proofs/ForwardNets.antt).
 use Rattle.std.specs.Prelude.{◌≡◌, ℕ, ◌<◌, ◌≤◌, ◌⊎◌, List, [], length, Some, All}
+use Rattle.flow_net.specs.Entering.{IsOutside}
 use Rattle.flow_net.specs.Nested.{IsBack}
 use Rattle.flow_net.specs.Numbers.{IsNumberOf, IsNumberOrZero, item_at}
 use Rattle.flow_net.specs.Scopes.{HasScopes, Holds}
@@ -40,7 +41,7 @@ pub record IsForwardLoop (net : Net) (scope : ℕ) (inst : LoopInst) : Type 0 wh
 
 -- Where the arc comes into a loop instance, it goes to its header.
 abbrev pub EntersAt : Net → NetArc → ℕ → LoopInst → Type 0
-EntersAt net arc scope inst = Holds net scope arc.to → (Holds net scope arc.from → ⊥) → arc.to ≡ inst.header
+EntersAt net arc scope inst = Holds net scope arc.to → IsOutside net scope arc.from → arc.to ≡ inst.header
 
 pub record IsForwardArc (net : Net) (number : ℕ) (arc : NetArc) : Type 0 where
   pub from : IsNumberOrZero net.places arc.from

@@ -1,5 +1,5 @@
 -- The program of a net, its crude bound, and the limits that a program keeps.
-use Rattle.std.specs.Prelude.{◌≡◌, ℕ, ◌-◌, ◌*◌, ◌^◌, ◌<◌, ◌≤◌, ◌==◌, Bool, ℤ, pos, negsuc, [], length, All, Option, Some, None, if◌then◌else◌}
+use Rattle.std.specs.Prelude.{◌≡◌, ℕ, ◌-◌, ◌*◌, ◌^◌, ◌<◌, ◌≤◌, ◌==◌, ℤ, pos, negsuc, [], length, All, Option, Some, None, if◌then◌else◌}
 use Rattle.cache_config.specs.Instructions.{costs_of}
 use Rattle.cache_config.specs.declared.profile.Profile.{Profile}
 use Rattle.elf_mips.specs.declared.image.Image.{Image}
@@ -10,7 +10,7 @@ use Rattle.flow_net.specs.declared.net.NetArc.{NetArc}
 use Rattle.flow_net.specs.declared.net.Place.{Place}
 use Rattle.ipet_program.specs.Costs.{content_cost}
 use Rattle.ipet_program.specs.Rows.{rows_of}
-use Rattle.ipet_program.specs.Scopes.{TellsHeld, turns_at}
+use Rattle.ipet_program.specs.Scopes.{turns_at}
 use Rattle.ipet_program.specs.Sums.{numbered, sum_to}
 use Rattle.ipet_program.specs.declared.program.Program.{Program}
 use Rattle.ipet_program.specs.declared.program.Row.{Row}
@@ -24,13 +24,13 @@ arc_value price None = pos 0
 arc_value price (Some arc) = pos (price arc.to)
 
 -- An arc is taken at most as often as the loops round its source let that be visited; arc 1 comes once.
-abbrev pub arc_cap : Net → (ℕ → ℕ → Bool) → Option NetArc → ℕ
-arc_cap net holds None = 1
-arc_cap net holds (Some arc) = if arc.from == 0 then 1 else turns_at net holds arc.from
+abbrev pub arc_cap : Net → Option NetArc → ℕ
+arc_cap net None = 1
+arc_cap net (Some arc) = if arc.from == 0 then 1 else turns_at net arc.from
 
 -- The crude bound: each place's price, as often as the loops round it let it be visited.
-abbrev pub crude_of : Net → (ℕ → ℕ → Bool) → (ℕ → ℕ) → ℕ
-crude_of net holds price = sum_to (length net.places) (λ place. price place * turns_at net holds place)
+abbrev pub crude_of : Net → (price : ℕ → ℕ) → ℕ
+crude_of net price = sum_to (length net.places) (λ place. price place * turns_at net place)
 
 -- The greatest crude bound of a program that is built: 2^63 - 1.
 abbrev pub crude_limit : ℕ
@@ -38,17 +38,15 @@ crude_limit = 2 ^ 63 - 1
 
 -- The program of a net whose places have these prices: its columns are the arcs.
 pub record IsProgramOf (net : Net) (price : ℕ → ℕ) (program : Program) : Type 0 where
-  pub holds : ℕ → ℕ → Bool
-  pub told : TellsHeld net holds
   pub outside : price 0 ≡ 0
   pub columns : program.columns ≡ length net.arcs
-  pub rows : program.rows ≡ rows_of net holds
+  pub rows : program.rows ≡ rows_of net
   pub value : program.value ≡ numbered (λ column. arc_value price (item_at column net.arcs)) (length net.arcs)
-  pub caps : program.caps ≡ numbered (λ column. arc_cap net holds (item_at column net.arcs)) (length net.arcs)
+  pub caps : program.caps ≡ numbered (λ column. arc_cap net (item_at column net.arcs)) (length net.arcs)
   pub stages : program.stages ≡ []
   -- Each place costs something.
   pub costly : (place : ℕ) → IsNumberOf net.places place → 1 ≤ price place
-  pub low : crude_of net holds price ≤ crude_limit
+  pub low : crude_of net price ≤ crude_limit
 
 -- The price of a place is the cycles that each visit of its unit takes.
 abbrev pub price_at : Profile → Image → (number : ℕ) → Option Place → ℕ

@@ -1,6 +1,7 @@
 -- The rows of the program of a net.
 use Rattle.std.specs.Prelude.{ℕ, zero, suc, ◌==◌, ◌&&◌, not, Bool, true, false, ℤ, pos, ◌-ℤ◌, ◌*ℤ◌, List, [], ◌∷◌, ◌++◌, length, Option, Some, None, if◌then◌else◌}
 use Rattle.flow_net.specs.Numbers.{item_at}
+use Rattle.flow_net.specs.Scopes.{holds_of}
 use Rattle.flow_net.specs.declared.net.LoopInst.{LoopInst}
 use Rattle.flow_net.specs.declared.net.Net.{Net}
 use Rattle.flow_net.specs.declared.net.NetArc.{NetArc}
@@ -30,8 +31,9 @@ abbrev pub goes_from : ℕ → Option NetArc → Bool
 goes_from place None = false
 goes_from place (Some arc) = arc.from == place
 
--- The arc enters the loop instance: it goes to the header from a place that isn't held, or from 0.
-abbrev pub is_entering : (ℕ → Bool) → ℕ → Option NetArc → Bool
+-- Whether the arc enters the loop instance: it goes to the header from a place that isn't held, or from 0. (The test
+-- tells `Enters`: `is_entering-enters` of proofs/Entering.antt.)
+abbrev pub is_entering : (held : ℕ → Bool) → (header : ℕ) → Option NetArc → Bool
 is_entering held header None = false
 is_entering held header (Some arc) = (arc.to == header) && not (held arc.from)
 
@@ -62,11 +64,11 @@ loop_row_of arcs held None = record { equal = false; terms = []; right = pos 0 }
 loop_row_of arcs held (Some inst) =
     record { equal = false; terms = terms_of (loop_factor arcs held inst) (length arcs); right = pos 0 }
 
-abbrev pub loop_row : Net → (ℕ → ℕ → Bool) → ℕ → Row
-loop_row net holds scope = loop_row_of net.arcs (holds scope) (item_at scope net.loops)
+abbrev pub loop_row : Net → (scope : ℕ) → Row
+loop_row net scope = loop_row_of net.arcs (holds_of net scope) (item_at scope net.loops)
 
 -- The rows in their order: the entry's, one for each place, one for each loop instance.
-abbrev pub rows_of : Net → (ℕ → ℕ → Bool) → List Row
-rows_of net holds =
+abbrev pub rows_of : Net → List Row
+rows_of net =
     entry_row (length net.arcs)
-    ∷ numbered (place_row net.arcs) (length net.places) ++ numbered (loop_row net holds) (length net.loops)
+    ∷ numbered (place_row net.arcs) (length net.places) ++ numbered (loop_row net) (length net.loops)

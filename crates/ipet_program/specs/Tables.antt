@@ -1,14 +1,14 @@
 -- The tables from which a program is built: prices, turns, and rows that grow by a column at a time.
 use Rattle.std.specs.Prelude.{◌≡◌, ℕ, ◌-◌, ◌^◌, ◌≤◌, ◌↔◌, ◌==◌, ◌&&◌, not, min, Bool, true, false, ℤ, pos, ◌-ℤ◌, ◌*ℤ◌, List, [], ◌++◌, length, All, Option, Some, None, if◌then◌else◌}
 use Rattle.flow_net.specs.Numbers.{item_at, IsNumberOf, IsNumberOrZero}
-use Rattle.flow_net.specs.Scopes.{ChainsEnd, IsWithin}
+use Rattle.flow_net.specs.Scopes.{ChainsEnd, IsWithin, holds_of}
 use Rattle.flow_net.specs.declared.net.LoopInst.{LoopInst}
 use Rattle.flow_net.specs.declared.net.Net.{Net}
 use Rattle.flow_net.specs.declared.net.NetArc.{NetArc}
 use Rattle.ipet_program.specs.Costs.{price_limit}
 use Rattle.ipet_program.specs.Programs.{arc_cap, arc_value, crude_limit, crude_of}
 use Rattle.ipet_program.specs.Rows.{loop_factor, one_if, place_factor, rows_of, term_of, terms_of}
-use Rattle.ipet_program.specs.Scopes.{TellsHeld, bound_of, turns_at}
+use Rattle.ipet_program.specs.Scopes.{bound_of, turns_at}
 use Rattle.ipet_program.specs.Sums.{numbered, product_to}
 use Rattle.ipet_program.specs.declared.program.Program.{Program}
 use Rattle.ipet_program.specs.declared.program.Row.{Row}
@@ -35,10 +35,9 @@ abbrev pub AreTurnsOf : List LoopInst → (scope turns : ℕ) → Type 0
 AreTurnsOf loops scope turns =
     (within : ℕ → ℕ → Bool) → TellsWithin loops within → turns ≡ in_128 (turns_round loops within scope)
 
--- How often the loops round a place let it be visited, whatever the test.
+-- How often the loops round a place let it be visited.
 abbrev pub AreTurnsAt : Net → (place turns : ℕ) → Type 0
-AreTurnsAt net place turns =
-    (holds : ℕ → ℕ → Bool) → TellsHeld net holds → turns ≡ in_128 (turns_at net holds place)
+AreTurnsAt net place turns = turns ≡ in_128 (turns_at net place)
 
 -- The table of the turns of the loop instances.
 abbrev pub AreTurns : List LoopInst → List ℕ → Type 0
@@ -55,8 +54,7 @@ pub record AreChains (loops : List LoopInst) : Type 0 where
 -- The crude bound, of a table of the prices of the places.
 abbrev pub IsCrude : Net → List ℕ → (crude : ℕ) → Type 0
 IsCrude net prices crude =
-    (price : ℕ → ℕ) → prices ≡ numbered price (length net.places) → (holds : ℕ → ℕ → Bool) →
-    TellsHeld net holds → crude ≡ in_128 (crude_of net holds price)
+    (price : ℕ → ℕ) → prices ≡ numbered price (length net.places) → crude ≡ in_128 (crude_of net price)
 
 -- The value of each arc, of a table of the prices of the places.
 abbrev pub AreValues : Net → List ℕ → List ℤ → Type 0
@@ -66,20 +64,14 @@ AreValues net prices values =
 
 -- The cap of an arc from a place, and of each arc.
 abbrev pub IsCap : Net → (from cap : ℕ) → Type 0
-IsCap net from cap =
-    (holds : ℕ → ℕ → Bool) → TellsHeld net holds →
-    cap ≡ (if from == 0 then 1 else turns_at net holds from)
+IsCap net from cap = cap ≡ (if from == 0 then 1 else turns_at net from)
 
 abbrev pub AreCaps : Net → List ℕ → Type 0
-AreCaps net caps =
-    (holds : ℕ → ℕ → Bool) → TellsHeld net holds →
-    caps ≡ numbered (λ column. arc_cap net holds (item_at column net.arcs)) (length net.arcs)
+AreCaps net caps = caps ≡ numbered (λ column. arc_cap net (item_at column net.arcs)) (length net.arcs)
 
 -- The loops round each place let it be visited at most as often as the limit of the crude bound says.
 abbrev pub AreLow : Net → Type 0
-AreLow net =
-    (holds : ℕ → ℕ → Bool) → TellsHeld net holds → (place : ℕ) → IsNumberOf net.places place →
-    turns_at net holds place ≤ crude_limit
+AreLow net = (place : ℕ) → IsNumberOf net.places place → turns_at net place ≤ crude_limit
 
 -- A row without terms, with the right side 0.
 abbrev pub empty_row : (equal : Bool) → Row
@@ -122,15 +114,12 @@ loop_row_by arcs held count None = record { equal = false; terms = []; right = p
 loop_row_by arcs held count (Some inst) =
     record { equal = false; terms = terms_of (loop_factor arcs held inst) count; right = pos 0 }
 
-abbrev pub loop_row_to : Net → (ℕ → ℕ → Bool) → (count : ℕ) → ℕ → Row
-loop_row_to net holds count scope =
-    loop_row_by net.arcs (holds scope) count (item_at scope net.loops)
+abbrev pub loop_row_to : Net → (count : ℕ) → (scope : ℕ) → Row
+loop_row_to net count scope = loop_row_by net.arcs (holds_of net scope) count (item_at scope net.loops)
 
 -- Such a row for each loop instance.
 abbrev pub AreLoopRows : Net → (count : ℕ) → List Row → Type 0
-AreLoopRows net count rows =
-    (holds : ℕ → ℕ → Bool) → TellsHeld net holds →
-    rows ≡ numbered (loop_row_to net holds count) (length net.loops)
+AreLoopRows net count rows = rows ≡ numbered (loop_row_to net count) (length net.loops)
 
 -- The factor of an arc in the row of a loop instance.
 abbrev pub loop_part : (held : ℕ → Bool) → NetArc → Option LoopInst → ℤ
@@ -142,15 +131,10 @@ loop_part held arc (Some inst) =
 -- The rows of loop instances gain an arc.
 abbrev pub GainAtLoops : Net → List Row → (column : ℕ) → NetArc → List Row → Type 0
 GainAtLoops net before column arc after =
-    (holds : ℕ → ℕ → Bool) → TellsHeld net holds → (row : ℕ → Row) →
-    before ≡ numbered row (length before) →
+    (row : ℕ → Row) → before ≡ numbered row (length before) →
     after ≡ numbered
-    (λ scope. with_term (row scope) column (loop_part (holds scope) arc (item_at scope net.loops)))
+    (λ scope. with_term (row scope) column (loop_part (holds_of net scope) arc (item_at scope net.loops)))
     (length before)
-
--- The rows of a net, whatever the test.
-abbrev pub AreRows : Net → List Row → Type 0
-AreRows net rows = (holds : ℕ → ℕ → Bool) → TellsHeld net holds → rows ≡ rows_of net holds
 
 -- The number of the loop instance with this header; 0 where none has it.
 pub record IsLoopAt (net : Net) (place number : ℕ) : Type 0 where
@@ -161,7 +145,7 @@ pub record IsLoopAt (net : Net) (place number : ℕ) : Type 0 where
 -- The parts of the program of a net, of a table of the prices of its places.
 pub record HasParts (net : Net) (prices : List ℕ) (program : Program) : Type 0 where
   pub columns : program.columns ≡ length net.arcs
-  pub rows : AreRows net program.rows
+  pub rows : program.rows ≡ rows_of net
   pub value : AreValues net prices program.value
   pub caps : AreCaps net program.caps
   pub stages : program.stages ≡ []

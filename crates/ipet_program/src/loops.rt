@@ -1,11 +1,10 @@
 //! The rows of loop instances: a header is come to at most bound times as often as its loop is entered.
 
-ghost use Rattle.std.specs.Prelude.{◌≡◌, ◌≤◌, ◌<◌, ◌^◌, ◌-ℤ◌, ◌*ℤ◌, not, ℕ, Bool, IfOk, OnOk, length, pos};
+ghost use Rattle.std.specs.Prelude.{◌≡◌, ◌≤◌, ◌<◌, ◌^◌, ◌-ℤ◌, ◌*ℤ◌, not, IfOk, OnOk, length, pos};
 ghost use Rattle.flow_net.specs.Nested.{IsNested};
 ghost use Rattle.flow_net.specs.Numbers.{IsNumberOrZero};
-ghost use Rattle.flow_net.specs.Scopes.{HasScopes};
+ghost use Rattle.flow_net.specs.Scopes.{HasScopes, holds_of};
 ghost use Rattle.ipet_program.specs.Rows.{loop_row, one_if};
-ghost use Rattle.ipet_program.specs.Scopes.{TellsHeld};
 ghost use Rattle.ipet_program.specs.Sums.{numbered};
 ghost use Rattle.ipet_program.specs.Tables.{AreLoopRows, GainAtLoops, IsLoopAt};
 ghost use Rattle.ipet_program.specs.declared.program.Row.{Row};
@@ -39,8 +38,7 @@ fn loop_at(net: &Net, place: u32) -> u32
 fn is_outside(net: &Net, scope: u32, place: u32) -> bool
     requires scopes { HasScopes net.now }
     requires place { IsNumberOrZero net.now.places place }
-    ensures outside { (holds : ℕ → ℕ → Bool) → TellsHeld net.now holds →
-        result ≡ not (holds scope place) }
+    ensures outside { result ≡ not (holds_of net.now scope place) }
 {
     if place == 0 {
         return true;
@@ -95,8 +93,7 @@ fn add_arcs(net: &Net, rows: &mut [Row]) -> Result<(), AllocError>
 pub fn loop_rows(alloc: Global, net: &Net) -> Result<Vec<Row>, AllocError>
     requires nested { IsNested net.now }
     requires few { length net.now.arcs ≤ 2 ^ 28 }
-    ensures rows { IfOk result (λ rows. (holds : ℕ → ℕ → Bool) → TellsHeld net.now holds →
-        rows.items ≡ numbered (loop_row net.now holds) (length net.now.loops)) }
+    ensures rows { IfOk result (λ rows. rows.items ≡ numbered (loop_row net.now) (length net.now.loops)) }
 {
     let mut rows = empty_rows(alloc, net.loops.as_slice().len(), false)?;
     add_arcs(net, &mut rows)?;

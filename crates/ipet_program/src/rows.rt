@@ -2,8 +2,7 @@
 
 ghost use Rattle.std.specs.Prelude.{◌≡◌, ◌≤◌, ◌^◌, ℕ, IfOk, length};
 ghost use Rattle.flow_net.specs.Nested.{IsNested};
-ghost use Rattle.ipet_program.specs.Rows.{entry_row};
-ghost use Rattle.ipet_program.specs.Tables.{AreRows};
+ghost use Rattle.ipet_program.specs.Rows.{entry_row, rows_of};
 
 use crate::loops::loop_rows;
 use crate::places::place_rows;
@@ -32,7 +31,7 @@ fn entry_row(alloc: Global) -> Result<Row, AllocError>
 pub fn rows_of(alloc: Global, net: &Net) -> Result<List<Row>, AllocError>
     requires nested { IsNested net.now }
     requires few { length net.now.arcs ≤ 2 ^ 28 }
-    ensures rows { IfOk result (AreRows net.now) }
+    ensures rows { IfOk result (λ rows. rows ≡ rows_of net.now) }
 {
     let mut places = place_rows(alloc, net)?;
     let mut loops = loop_rows(alloc, net)?;

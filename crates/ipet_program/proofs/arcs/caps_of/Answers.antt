@@ -7,21 +7,21 @@ use Rattle.ipet_program.proofs.Numbered.{item-read, numbered-push}
 use Rattle.ipet_program.proofs.arcs.caps_of.Goals as goal
 
 pub loop-arc-preserved : goal.loop-arc-preserved
-loop-arc-preserved c = λ holds told.
+loop-arc-preserved c =
     let net = c.args.net.now in
     let index = c.loop-arc.arc-index in
     let arcs = c.as_slice-arc-items in
-    numbered-push (λ column. arc_cap net holds (item_at column net.arcs)) index c.loop-arc.caps c.push.new.self
-    c.cap_of.result (c.loop-arc.invariant holds told) c.in_ok-push.ensures.ok
-    (c.cap_of.ensures.cap holds told
-    ∙ ap (arc_cap net holds) (sym (item-read net.arcs arcs.result.now index _ (sym arcs.ensures)
+    numbered-push (λ column. arc_cap net (item_at column net.arcs)) index c.loop-arc.caps c.push.new.self
+    c.cap_of.result c.loop-arc.invariant c.in_ok-push.ensures.ok
+    (c.cap_of.ensures.cap
+    ∙ ap (arc_cap net) (sym (item-read net.arcs arcs.result.now index _ (sym arcs.ensures)
     c.loop-arc-test.true)))
 
 pub returns : goal.returns
 returns c = record {
-  caps = λ holds told.
+  caps =
       let net = c.args.net.now in
       let all : c.loop-arc.arc-index ≡ length net.arcs = omega (arith, ap length c.as_slice-arc-items.ensures) in
-      subst (λ (n : ℕ). c.loop-arc.caps ≡ numbered (λ column. arc_cap net holds (item_at column net.arcs)) n) all
-      (c.loop-arc.invariant holds told);
+      subst (λ (n : ℕ). c.loop-arc.caps ≡ numbered (λ column. arc_cap net (item_at column net.arcs)) n) all
+      c.loop-arc.invariant;
 }

@@ -2,7 +2,6 @@
 use Rattle.std.proofs.Common.{ℕ, length, refl, ◌∙◌}
 use Rattle.ipet_program.specs.Programs.{crude_of, place_price}
 use Rattle.ipet_program.proofs.Crudely.{are-low, is-low, priced-each}
-use Rattle.ipet_program.proofs.Held.{held_test, held_test-tells}
 use Rattle.ipet_program.proofs.assemble.build.Goals as goal
 
 pub program_of-requires-clause-low : goal.program_of-requires-clause-low
@@ -12,29 +11,25 @@ program_of-requires-clause-low c =
     are-low net price
     (λ place number. priced-each price (length net.places) c.in_ok-prices.prices.items c.in_ok-prices.ensures.prices
     c.in_ok-prices.ensures.priced place number.from_one number.within)
-    (λ holds told. is-low c.crude_of-crude.result (crude_of net holds price)
-    (c.crude_of-crude.ensures.crude price (c.deref.ensures.value ∙ c.in_ok-prices.ensures.prices) holds told)
+    (is-low c.crude_of-crude.result (crude_of net price)
+    (c.crude_of-crude.ensures.crude price (c.deref.ensures.value ∙ c.in_ok-prices.ensures.prices))
     c.if-crude-gt-CRUDE_LIMIT.false)
 
 pub returns-clause-program : goal.returns-clause-program
 returns-clause-program c =
     let net = c.args.net.now in
     let price : ℕ → ℕ = place_price c.args.profile.now c.args.image.now net in
-    let holds = held_test net c.requires.nested.scopes.chains in
-    let told = held_test-tells net c.requires.nested.scopes.chains in
     let parts = c.in_ok-program.ensures.parts in
     record {
-      holds = holds;
-      told = told;
       outside = refl;
       columns = parts.columns;
-      rows = parts.rows holds told;
+      rows = parts.rows;
       value = parts.value price refl (c.deref-3.ensures.value ∙ c.in_ok-prices.ensures.prices);
-      caps = parts.caps holds told;
+      caps = parts.caps;
       stages = parts.stages;
       costly = λ place number. priced-each price (length net.places) c.in_ok-prices.prices.items
           c.in_ok-prices.ensures.prices c.in_ok-prices.ensures.priced place number.from_one number.within;
-      low = is-low c.crude_of-crude.result (crude_of net holds price)
-          (c.crude_of-crude.ensures.crude price (c.deref.ensures.value ∙ c.in_ok-prices.ensures.prices) holds told)
+      low = is-low c.crude_of-crude.result (crude_of net price)
+          (c.crude_of-crude.ensures.crude price (c.deref.ensures.value ∙ c.in_ok-prices.ensures.prices))
           c.if-crude-gt-CRUDE_LIMIT.false;
     }

@@ -8,20 +8,20 @@ use Rattle.ipet_program.proofs.Numbered.{numbered-read}
 use Rattle.ipet_program.proofs.crude.crude_of.Goals as goal
 
 pub loop-index-preserved : goal.loop-index-preserved
-loop-index-preserved c = λ price prices holds told.
+loop-index-preserved c = λ price prices.
     let net = c.args.net.now in
     let index = c.loop-index.index in
-    crude-next price (turns_at net holds) index c.loop-index.crude c.place_turns-visits.result c.from.result
-    c.saturating_mul-cycles.result c.saturating_add-crude.result (c.loop-index.invariant price prices holds told)
-    (c.place_turns-visits.ensures.turns holds told)
+    crude-next price (turns_at net) index c.loop-index.crude c.place_turns-visits.result c.from.result
+    c.saturating_mul-cycles.result c.saturating_add-crude.result (c.loop-index.invariant price prices)
+    c.place_turns-visits.ensures.turns
     (c.from.ensures ∙ numbered-read price (length net.places) c.args.prices.now index 0 prices (omega arith))
     c.saturating_mul-cycles.ensures c.saturating_add-crude.ensures
 
 pub returns : goal.returns
 returns c = record {
-  crude = λ price prices holds told.
+  crude = λ price prices.
       let net = c.args.net.now in
       let all : c.loop-index.index ≡ length net.places = omega arith in
-      subst (λ (n : ℕ). c.loop-index.crude ≡ in_128 (sum_to n (λ place. price place * turns_at net holds place))) all
-      (c.loop-index.invariant price prices holds told);
+      subst (λ (n : ℕ). c.loop-index.crude ≡ in_128 (sum_to n (λ place. price place * turns_at net place))) all
+      (c.loop-index.invariant price prices);
 }

@@ -13,10 +13,10 @@ add_arcs-requires-clause-count c =
 
 pub returns : goal.returns
 returns c = record {
-  rows = λ holds told.
+  rows =
       let net = c.args.net.now in
-      rows-back (loop_row net holds) c.in_ok-rows.rows.len (length net.loops) (length net.loops) c.add_arcs.new.rows _
+      rows-back (loop_row net) c.in_ok-rows.rows.len (length net.loops) (length net.loops) c.add_arcs.new.rows _
       (omega (arith, c.add_arcs.auto.rows, c.deref_mut.ensures.len))
-      (c.in_ok-add_arcs.ensures.rows holds told ∙ loop_rows-whole net holds (length net.loops))
+      (c.in_ok-add_arcs.ensures.rows ∙ loop_rows-whole net (length net.loops))
       (λ _. length net.loops);
 }

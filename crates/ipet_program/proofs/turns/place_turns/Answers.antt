@@ -37,13 +37,13 @@ returns c =
     (sym c.as_slice.ensures) (item_at-there net.places c.args.place nowhere c.requires.place) in
     let count = length-turns net.loops chains turns c.requires.turns in
     record {
-      turns = λ holds told.
+      turns =
           let of : ℕ → ℕ = λ scope. in_128 (turns_round net.loops (within_test net.loops chains) scope) in
           let known : turns ≡ numbered of (length net.loops) =
           c.requires.turns (within_test net.loops chains) (within_test-tells net.loops chains) in
           c.scope_turns.ensures.turns of
           (ap in_128 (turns-run net.loops (within_test net.loops chains) (within_test-tells net.loops chains)))
           (subst (λ (n : ℕ). turns ≡ numbered of n) (sym count) known)
-          ∙ ap in_128 (turns_at-round net holds (within_test net.loops chains) told
+          ∙ ap in_128 (turns_at-round net c.requires.scopes (within_test net.loops chains)
           (within_test-tells net.loops chains) c.args.place place there);
     }
