@@ -48,6 +48,7 @@ impl Costs {
     pub fn instruction(&self, instr: &Instr) -> u64
         requires { IsValid instr.now }
         ensures value { result ≡ class_cost self.now instr.now }
+        ensures some { 1 ≤ result }
         ensures small { result ≤ most_cycles }
     {
         class_cycles(&self.cycles, mips_decode::cost_class(instr))
@@ -78,6 +79,7 @@ impl Costs {
 /// The cycles of a class.
 fn class_cycles(cycles: &Cycles, class: CostClass) -> u64
     ensures value { result ≡ cycles_of cycles.now class }
+    ensures some { 1 ≤ result }
     ensures small { result ≤ most_cycles }
 {
     match class {

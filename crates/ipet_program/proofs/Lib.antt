@@ -17,7 +17,6 @@ pub mod ListedLemmas
 pub mod TestLemmas
 pub mod FlowSums
 pub mod Low
-pub mod UnitPrices
 pub mod Priced
 pub mod Products
 pub mod Bits128

@@ -30,8 +30,9 @@ counts_of-times (Takes arc ∷ more) column =
     ∙ ap (λ (n : ℕ). cond (arc == column) 1 0 + n) (counts_of-times more column)
     ∙ sym (sum_by-cons (λ (number : ℕ). cond (number == column) 1 0) arc (arcs_of more))
 counts_of-times (Makes access address caches hit ∷ more) column =
-    sum_by-cons (λ (m : Moment). cond (counts_for column m) 1 0) (Makes access address caches hit) more
-    ∙ counts_of-times more column
+    let rest = counts_of-times more column in
+    let sum = sum_by-cons (λ (m : Moment). cond (counts_for column m) 1 0) (Makes access address caches hit) more in
+    omega (arith, rest, sum)
 
 own : (number : ℕ) → ◌≡◌ {A = ℕ} (cond (number == number) 1 0) 1
 own number = grind (arith, nat_tests)

@@ -28,6 +28,7 @@ fn touch_price(costs: &Costs, instr: &Instr) -> u64
 fn instr_price(costs: &Costs, fetch: AccessKind, instr: &Instr) -> u64
     requires { IsValid instr.now }
     ensures value { result ≡ instr_cost costs.now fetch instr.now }
+    ensures some { 1 ≤ result }
     ensures small { result ≤ 3 * most_cycles }
     ensures transfer { is_transfer instr.now ≡ true → result ≤ 2 * most_cycles }
 {
@@ -38,6 +39,7 @@ fn instr_price(costs: &Costs, fetch: AccessKind, instr: &Instr) -> u64
 pub fn unit_price(costs: &Costs, unit: &CodeUnit) -> u64
     requires { IsStanding unit.now }
     ensures value { (number address : ℕ) → result ≡ unit_cost costs.now number unit.now address }
+    ensures some { 1 ≤ result }
     ensures small { result ≤ price_limit }
 {
     let cycles = instr_price(costs, AccessKind::Fetch, &unit.instr);

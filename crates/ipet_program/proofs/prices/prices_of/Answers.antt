@@ -1,5 +1,5 @@
 -- Each place's price stands behind the ones before it.
-use Rattle.std.proofs.Common.{◌≡◌, length, ap, ◌∙◌, arith}
+use Rattle.std.proofs.Common.{◌≡◌, ◌+◌, length, ap, ◌∙◌, arith}
 use Rattle.std.proofs.lemmas.List.Elements.{All-push, All-same}
 use Rattle.ipet_program.specs.Programs.{place_price}
 use Rattle.ipet_program.specs.Tables.{IsPrice}
