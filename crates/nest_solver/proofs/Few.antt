@@ -78,12 +78,12 @@ loops-few : (net : Net) → IsNested net → length net.loops ≤ length net.arc
 loops-few net nested =
     few_by (length net.arcs) (length net.loops) (λ i. scope_of (item_at (target_of (item_at i net.arcs)) net.places))
     (λ l u. let loop = loop-at net l u in
-    let enters = enters-each net nested l loop.item loop.there in
-    let within = item_at-within net.arcs enters.number enters.arc enters.there in
+    let (number, enters) = enters-each net nested l loop.item loop.there in
+    let within = item_at-within net.arcs number enters.arc enters.there in
     let end : enters.arc.to ≡ loop.item.header =
-    nested.entering enters.number l enters.arc loop.item enters.there loop.there enters.inside enters.outside in
+    nested.entering number l enters.arc loop.item enters.there loop.there enters.inside enters.outside in
     let held = nested.held l loop.item loop.there in (
-      enters.number,
+      number,
       (within.from_one, within.within),
       ap (λ found. scope_of (item_at (target_of found) net.places)) enters.there
           ∙ ap (λ (p : ℕ). scope_of (item_at p net.places)) end

@@ -5,6 +5,7 @@ use Rattle.std.proofs.lemmas.Bool.{cases_Bool}
 use Rattle.std.proofs.lemmas.Int.{ints, fits_signed_from_abs}
 use lib.IntN.{ℤ, pos, ◌+ℤ◌, ◌*ℤ◌}
 use lib.Signed.{◌≤ℤ◌}
+use Rattle.flow_net.specs.Scopes.{holds_of}
 use Rattle.flow_net.specs.Numbers.{item_at, IsNumberOf}
 use Rattle.flow_net.specs.Nested.{IsNested}
 use Rattle.flow_net.specs.declared.net.Net.{Net}
@@ -15,7 +16,7 @@ use Rattle.ipet_program.specs.declared.leaf.Leaf.{Leaf}
 use Rattle.ipet_program.specs.declared.leaf.Weight.{Weight}
 use Rattle.ipet_program.specs.declared.program.Program.{Program}
 use Rattle.ipet_program.specs.declared.program.Row.{Row}
-use Rattle.nest_solver.specs.Nets.{HasDepths, HasHeaders, shape_of, holds_of, value_at_end}
+use Rattle.nest_solver.specs.Nets.{HasDepths, HasHeaders, shape_of, value_at_end}
 use Rattle.nest_solver.specs.Shape.{Shape, IsNest, IsUpTo, target, is_back}
 use Rattle.nest_solver.specs.Solved.{paid, weight_of, IsDual}
 use Rattle.nest_solver.specs.Counted.{bit, returns}
@@ -25,7 +26,7 @@ use Rattle.nest_solver.proofs.Sums.{sum-none}
 use Rattle.nest_solver.proofs.Arcs.{back-of}
 use Rattle.nest_solver.proofs.Along.{returns-none}
 use Rattle.nest_solver.proofs.NetShape.{shape-nest}
-use Rattle.nest_solver.proofs.Rows.{holds-same, value-table}
+use Rattle.nest_solver.proofs.Rows.{value-table}
 use Rattle.nest_solver.proofs.Listed.{fit-size, weights-all}
 use Rattle.nest_solver.proofs.LeafShown.{row-of, column-pays}
 use Rattle.nest_solver.proofs.LeafValid.{weights, row-there, row-signed, shown-column, shown-fit, shown-right, right-size}
@@ -101,7 +102,7 @@ module _ (net : Net) (price : ℕ → ℕ) (program : Program) (depths headed tu
   s = shape_of net depths headed
 
   abbrev rows : List Row
-  rows = rows_of net (holds_of net)
+  rows = rows_of net
 
   abbrev listed : List Weight
   listed = weights net depths headed total worth turns
@@ -139,7 +140,7 @@ module _ (net : Net) (price : ℕ → ℕ) (program : Program) (depths headed tu
   fits_by : (n : ℕ) → n < 2 ^ 127 → FitsSigned w128 (pos 1 *ℤ pos n)
   fits_by n less = fits_signed_from_abs w128 (pos 1 *ℤ pos n) (omega (arith, ints, one_times (pos n), less))
 
-  showing : IsShowing program total (rows_of net (holds_of net)) (weights net depths headed total worth turns) (pos 1)
+  showing : IsShowing program total (rows_of net) (weights net depths headed total worth turns) (pos 1)
   showing = record {
     there = weights-all (λ weight. IsNumberOf rows weight.row) (multiplier s total worth turns)
         (s.places + 1 + s.loops)
@@ -181,12 +182,12 @@ pub leaf-shows : (net : Net) (price : ℕ → ℕ) (program : Program) (depths h
     AreSmall (shape_of net depths headed) total worth turns →
     IsLeafOf (shape_of net depths headed) total worth turns leaf → IsLeaf program [] total leaf
 leaf-shows net price program depths headed turns worth depth total leaf nested has heads is dual low shown small of_leaf =
-    let rows : all_rows program [] ≡ rows_of net (holds_of net) =
-    append-nil program.rows ∙ is.rows ∙ ap (rows_of net) (holds-same net is.holds nested is.told) in
+    let rows : all_rows program [] ≡ rows_of net =
+    append-nil program.rows ∙ is.rows in
     leaf-from program total leaf of_leaf.shows
     (subst (λ (listed : List Row). IsShowing program total listed leaf.weights leaf.denom) (sym rows)
-    (subst (λ (listed : List Weight). IsShowing program total (rows_of net (holds_of net)) listed leaf.denom)
+    (subst (λ (listed : List Weight). IsShowing program total (rows_of net) listed leaf.denom)
     (sym of_leaf.weights)
-    (subst (λ (denom : ℤ). IsShowing program total (rows_of net (holds_of net))
+    (subst (λ (denom : ℤ). IsShowing program total (rows_of net)
     (weights net depths headed total worth turns) denom) (sym of_leaf.denom)
     (showing net price program depths headed turns worth depth total nested has heads is dual low shown small))))

@@ -4,6 +4,7 @@ use Rattle.std.proofs.lemmas.Bool.{cases_eq, ne_eqb}
 use Rattle.std.proofs.lemmas.Int.{ints}
 use lib.IntN.{ℤ, pos, ◌+ℤ◌, ◌-ℤ◌, ◌*ℤ◌}
 use lib.Signed.{◌≤ℤ◌}
+use Rattle.flow_net.specs.Scopes.{holds_of}
 use Rattle.flow_net.specs.Numbers.{item_at, IsNumberOf}
 use Rattle.flow_net.specs.declared.net.LoopInst.{LoopInst}
 use Rattle.flow_net.specs.declared.net.Net.{Net}
@@ -14,7 +15,7 @@ use Rattle.ipet_program.specs.Sums.{sum_to}
 use Rattle.ipet_program.specs.declared.leaf.Weight.{Weight}
 use Rattle.ipet_program.specs.declared.program.Row.{Row}
 use Rattle.ipet_program.proofs.Totals.{total_to-one}
-use Rattle.nest_solver.specs.Nets.{shape_of, holds_of}
+use Rattle.nest_solver.specs.Nets.{shape_of}
 use Rattle.nest_solver.specs.Shape.{Shape, IsNest, IsUpTo, target}
 use Rattle.nest_solver.specs.Solved.{paid}
 use Rattle.nest_solver.specs.Counted.{bit}
@@ -38,19 +39,19 @@ module _ (net : Net) (depths headed : ℕ → ℕ) where
   s = shape_of net depths headed
 
   abbrev rows : List Row
-  rows = rows_of net (holds_of net)
+  rows = rows_of net
 
   place-given : (times : ℤ) (j p : ℕ) → IsUpTo (length net.arcs) j → IsUpTo (length net.places) p →
       total_of (parts_in j times (item_at (suc p) rows)) ≡ times *ℤ factor_at s j (suc p)
   place-given times j p u v =
-      ap (λ (found : Option Row). total_of (parts_in j times found)) (row-place net (holds_of net) p v)
+      ap (λ (found : Option Row). total_of (parts_in j times found)) (row-place net p v)
       ∙ terms-total times (place_factor net.arcs p) (length net.arcs) j (place_row net.arcs p) refl u
       ∙ ap (λ (z : ℤ). times *ℤ z) (place-factor net depths headed p j u ∙ sym (factor-at_place s j p v))
 
   loop-row : (l : ℕ) (inst : LoopInst) → item_at l net.loops ≡ Some inst → IsUpTo (length net.loops) l →
       item_at (suc (length net.places + l)) rows ≡ Some (loop_row_of net.arcs (holds_of net l) (Some inst))
   loop-row l inst there v =
-      row-loop net (holds_of net) l v
+      row-loop net l v
       ∙ ap (λ (found : Option LoopInst). Some (loop_row_of net.arcs (holds_of net l) found)) there
 
   loop-given : (times : ℤ) (j l : ℕ) → IsUpTo (length net.arcs) j → IsUpTo (length net.loops) l →
@@ -79,7 +80,7 @@ module _ (net : Net) (depths headed : ℕ → ℕ) where
       size (parts_in j times (item_at (suc p) rows)) ≤ nat_abs (times *ℤ factor_at s j (suc p))
   place-size times j p u v =
       subst (λ (found : Option Row). size (parts_in j times found) ≤ nat_abs (times *ℤ factor_at s j (suc p)))
-      (sym (row-place net (holds_of net) p v))
+      (sym (row-place net p v))
       (subst (λ (z : ℤ). size (parts_in j times (Some (place_row net.arcs p))) ≤ nat_abs (times *ℤ z))
       (place-factor net depths headed p j u ∙ sym (factor-at_place s j p v))
       (terms-size times (place_factor net.arcs p) (length net.arcs) j (place_row net.arcs p) refl u))
@@ -113,7 +114,7 @@ module _ (net : Net) (depths headed : ℕ → ℕ) where
       right_part times (item_at row rows) ≡ (times *ℤ one_if (row == 1)) ∷ []
   right-given times _ first = refl
   right-given times _ (place p v) =
-      ap (right_part times) (row-place net (holds_of net) p v)
+      ap (right_part times) (row-place net p v)
       ∙ ap (λ (z : ℤ). (times *ℤ z) ∷ []) (sym (other (suc p) (omega (arith, v))))
     where
       other : (row : ℕ) → 1 < row → one_if (row == 1) ≡ pos 0
@@ -127,15 +128,15 @@ module _ (net : Net) (depths headed : ℕ → ℕ) where
 
   pub row-there : (row : ℕ) → IsRowOf (length net.places) (length net.loops) row → IsNumberOf rows row
   row-there _ first = item_at-within rows 1 (entry_row (length net.arcs)) refl
-  row-there _ (place p v) = item_at-within rows (suc p) (place_row net.arcs p) (row-place net (holds_of net) p v)
+  row-there _ (place p v) = item_at-within rows (suc p) (place_row net.arcs p) (row-place net p v)
   row-there _ (loop l v) =
-      item_at-within rows (suc (length net.places + l)) (loop_row net (holds_of net) l) (row-loop net (holds_of net) l v)
+      item_at-within rows (suc (length net.places + l)) (loop_row net l) (row-loop net l v)
 
   pub row-signed : (total : ℕ) (worth turns : ℕ → ℕ) (row : ℕ) → IsRowOf (length net.places) (length net.loops) row →
       IsSigned (multiplier s total worth turns row) (item_at row rows)
   row-signed total worth turns _ first = λ e. absurd (true≢false e)
   row-signed total worth turns _ (place p v) =
-      subst (IsSigned (multiplier s total worth turns (suc p))) (sym (row-place net (holds_of net) p v))
+      subst (IsSigned (multiplier s total worth turns (suc p))) (sym (row-place net p v))
       (λ e. absurd (true≢false e))
   row-signed total worth turns _ (loop l v) = let found = loop-at net l v in
       subst (IsSigned (multiplier s total worth turns (suc (length net.places + l))))

@@ -3,7 +3,7 @@ use Rattle.std.proofs.Common.{◌≡◌, ◌⊎◌, ◌↔◌, ℕ, ◌+◌, ◌
 use Rattle.std.proofs.lemmas.Bool.{cases_Bool, cases_lt, cases_order}
 use Rattle.std.proofs.lemmas.Bool.Decides.{nat_tests}
 use Rattle.flow_net.specs.Numbers.{item_at, IsNumberOf, IsNumberOrZero}
-use Rattle.flow_net.specs.Scopes.{IsWithin, Holds, HasScopes}
+use Rattle.flow_net.specs.Scopes.{IsWithin, Holds, HasScopes, holds_of}
 use Rattle.flow_net.specs.Scopes.IsWithin.{here, out}
 use Rattle.flow_net.specs.Nested.{IsNested, IsBack}
 use Rattle.flow_net.specs.Paths.{IsPath, IsRunPath}
@@ -15,18 +15,20 @@ use Rattle.flow_net.specs.declared.net.Place.{Place}
 use Rattle.flow_net.proofs.Numbers.{item_at-there, item_at-all, item_at-within}
 use Rattle.flow_net.proofs.Chains.{within-zero, around, around-outward}
 use Rattle.flow_net.proofs.Holds.{holds-line, holds-through}
+use Rattle.flow_net.proofs.Round.{holds_of-tells}
 use Rattle.flow_net.proofs.Headers.{header-scope}
-use Rattle.ipet_program.specs.Scopes.{bound_of, TellsHeld}
-use Rattle.nest_solver.specs.Nets.{HasDepths, HasHeaders, AreUp, shape_of, holds_of, source_of, header_of, scope_of, round_by}
+use Rattle.ipet_program.specs.Scopes.{bound_of}
+use Rattle.nest_solver.specs.Nets.{HasDepths, HasHeaders, AreUp, shape_of, source_of, header_of, scope_of, round_by}
 use Rattle.nest_solver.specs.Shape.{Shape, IsNest, IsUpTo, IsAhead, IsRising, target, is_back}
 use Rattle.nest_solver.specs.Shape.IsAhead.{start, along}
 use Rattle.nest_solver.specs.Ways.{IsRound}
 use Rattle.nest_solver.proofs.Arcs.{back_by, back_from}
-use Rattle.nest_solver.proofs.Held.{held-scopes, within-deeper, around_small}
+use Rattle.nest_solver.proofs.Held.{within-deeper, around_small}
 
 -- The test tells which scopes hold which places.
-pub held-told : (net : Net) → IsNested net → TellsHeld net (holds_of net)
-held-told net nested = held-scopes net nested.scopes
+pub held-told : (net : Net) → IsNested net → (scope place : ℕ) →
+    (holds_of net scope place ≡ true) ↔ Holds net scope place
+held-told net nested = holds_of-tells net nested.scopes
 
 -- The arc, the loop and the place of a number.
 pub record IsItem {T : Type 0} (items : List T) (number : ℕ) : Type 0 where
@@ -239,27 +241,27 @@ module _ (net : Net) (nested : IsNested net) (depth headed : ℕ → ℕ) (depth
       ahead_path arc.to numbers to path.1.3
       (subst (IsAhead s) (ap s.to (sym path.0) ∙ arc_to number arc path.1.1) start)
 
-  last_by : IsUpTo s.arcs nested.entered.left.0
-  last_by = up_of net.arcs nested.entered.left.0 nested.entered.left.1.0 nested.entered.left.1.1
+  last_by : IsUpTo s.arcs nested.left.0
+  last_by = up_of net.arcs nested.left.0 nested.left.1.0 nested.left.1.1
 
-  ends_run_by : s.to nested.entered.left.0 ≡ 0
-  ends_run_by = arc_to nested.entered.left.0 nested.entered.left.1.0 nested.entered.left.1.1 ∙ nested.entered.left.1.2
+  ends_run_by : s.to nested.left.0 ≡ 0
+  ends_run_by = arc_to nested.left.0 nested.left.1.0 nested.left.1.1 ∙ nested.left.1.2
 
-  last_low : 0 < s.from nested.entered.left.0
-  last_low = elim (cases_lt 0 (s.from nested.entered.left.0)) as (λ _. 0 < s.from nested.entered.left.0) [
+  last_low : 0 < s.from nested.left.0
+  last_low = elim (cases_lt 0 (s.from nested.left.0)) as (λ _. 0 < s.from nested.left.0) [
     | inl low ↦ low
     | inr none ↦ absurd (omega (
       arith,
-      ap s.to (only_by nested.entered.left.0 last_by (omega (arith, none))),
+      ap s.to (only_by nested.left.0 last_by (omega (arith, none))),
       ends_run_by,
       begins_by,
     ))
   ]
 
-  comes_by : IsAhead s (s.from nested.entered.left.0)
-  comes_by = let path = nested.entered.reached (s.from nested.entered.left.0)
-      (record { from_one = last_low; within = starts_by nested.entered.left.0 last_by }) in
-      ahead_run path.0 (s.from nested.entered.left.0) path.1
+  comes_by : IsAhead s (s.from nested.left.0)
+  comes_by = let path = nested.entered.reached (s.from nested.left.0)
+      (record { from_one = last_low; within = starts_by nested.left.0 last_by }) in
+      ahead_run path.0 (s.from nested.left.0) path.1
 
   nest : IsNest s
   nest = record {
@@ -282,7 +284,7 @@ module _ (net : Net) (nested : IsNested net) (depth headed : ℕ → ℕ) (depth
     apart = apart_by;
     rank = nested.ranks.rank;
     rises = rises_by;
-    last = nested.entered.left.0;
+    last = nested.left.0;
     last_up = last_by;
     ends_run = ends_run_by;
     comes = comes_by;

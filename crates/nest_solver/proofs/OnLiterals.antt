@@ -1,5 +1,6 @@
 -- A loop within a loop, and its program, written out: the net is nested, and the program is that of the net.
 use Rattle.std.proofs.Common.{◌≡◌, ℕ, zero, suc, ◌^◌, ◌≤◌, List, [], ◌∷◌, length, true, false, refl, subst, sym, arith}
+use Rattle.flow_net.specs.Scopes.{holds_of}
 use Rattle.flow_net.specs.Nested.{IsNested}
 use Rattle.flow_net.specs.Numbers.{IsNumberOf}
 use Rattle.flow_net.specs.declared.net.Net.{Net}
@@ -7,8 +8,7 @@ use Rattle.flow_net.proofs.OnNested.{two_loops, nested_two_loops}
 use Rattle.ipet_program.specs.declared.program.Program.{Program}
 use Rattle.ipet_program.specs.declared.program.Row.{Row}
 use Rattle.ipet_program.specs.declared.program.Term.{Term}
-use Rattle.nest_solver.specs.Nets.{IsProgramOfNet, holds_of}
-use Rattle.nest_solver.proofs.NetShape.{held-told}
+use Rattle.nest_solver.specs.Nets.{IsProgramOfNet}
 use lib.IntN.{ℤ, pos, negsuc}
 
 abbrev pub term : (column : ℕ) (factor : ℤ) → Term
@@ -53,8 +53,6 @@ pub two_program_of : IsProgramOfNet two_loops two_program
 two_program_of = record {
   price = two_price;
   of_net = record {
-    holds = holds_of two_loops;
-    told = held-told two_loops nested_two_loops;
     outside = refl;
     columns = refl;
     rows = refl;

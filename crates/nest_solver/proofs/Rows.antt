@@ -6,6 +6,7 @@ use Rattle.std.proofs.lemmas.List.Elements.{All-cons, All-append}
 use lib.IntN.{ℤ, pos, ◌-ℤ◌, ◌*ℤ◌}
 use lib.Signed.{◌≤ℤ◌}
 use borrow.Author.Differences.{up, down}
+use Rattle.flow_net.specs.Scopes.{holds_of}
 use Rattle.flow_net.specs.Numbers.{item_at}
 use Rattle.flow_net.specs.Nested.{IsNested}
 use Rattle.flow_net.specs.declared.net.LoopInst.{LoopInst}
@@ -16,7 +17,7 @@ use Rattle.ipet_program.specs.Counts.{row_sum, IsMet, IsFeasible, value_of}
 use Rattle.ipet_program.specs.Leaves.{value_at}
 use Rattle.ipet_program.specs.Programs.{IsProgramOf, arc_value, crude_of, crude_limit}
 use Rattle.ipet_program.specs.Rows.{terms_of, one_if, comes_to, goes_from, is_entering as enters_loop, entry_row, place_factor, place_row, loop_factor, loop_row_of, loop_row, rows_of}
-use Rattle.ipet_program.specs.Scopes.{TellsHeld, turns_at, bound_of}
+use Rattle.ipet_program.specs.Scopes.{turns_at, bound_of}
 use Rattle.ipet_program.specs.Sums.{numbered, sum_to}
 use Rattle.ipet_program.specs.declared.program.Program.{Program}
 use Rattle.ipet_program.specs.declared.program.Row.{Row}
@@ -25,7 +26,7 @@ use Rattle.ipet_program.proofs.Terms.{row_sum-terms}
 use Rattle.ipet_program.proofs.Values.{value_of-total}
 use Rattle.ipet_program.proofs.Numbered.{item_at-numbered, numbered-all, length-numbered}
 use Rattle.ipet_program.proofs.RunCounts.{value_at-arc, length-value}
-use Rattle.nest_solver.specs.Nets.{shape_of, holds_of, value_at_end, source_of, header_of}
+use Rattle.nest_solver.specs.Nets.{shape_of, value_at_end, source_of, header_of}
 use Rattle.nest_solver.specs.Shape.{Shape, IsUpTo}
 use Rattle.nest_solver.specs.Counted.{bit}
 use Rattle.nest_solver.specs.Crude.{grown, IsCrude}
@@ -33,20 +34,9 @@ use Rattle.nest_solver.proofs.Sums.{sum-same, sum-scale}
 use Rattle.nest_solver.proofs.Products.{product-same}
 use Rattle.std.proofs.lemmas.Bool.Decides.{nat_tests}
 use Rattle.nest_solver.proofs.Counting.{Keeps, comes, goes, goes_in}
-use Rattle.nest_solver.proofs.NetShape.{arc-at, loop-at, held-told}
+use Rattle.nest_solver.proofs.NetShape.{arc-at, loop-at}
 use Rattle.flow_net.specs.Visits.{target_of}
 use Rattle.std.specs.Prelude.{nat_lt}
-
--- ---- Two tests that tell one thing are one.
-told_one : {P : Type 0} (a b : Bool) → ((a ≡ true) ↔ P) → ((b ≡ true) ↔ P) → a ≡ b
-told_one true true e f = refl
-told_one false false e f = refl
-told_one true false e f = absurd (true≢false (sym (f.1 (e.0 refl))))
-told_one false true e f = absurd (true≢false (sym (e.1 (f.0 refl))))
-
-pub holds-same : (net : Net) (holds : ℕ → ℕ → Bool) → IsNested net → TellsHeld net holds → holds ≡ holds_of net
-holds-same net holds nested told =
-    λ i l p. told_one (holds l p) (holds_of net l p) (told l p) (held-told net nested l p) i
 
 -- ---- The rows by their numbers.
 at-left : {T : Type 0} (xs ys : List T) (i : ℕ) → i < length xs → slice_get (xs ++ ys) i ≡ slice_get xs i
@@ -59,22 +49,22 @@ at-right [] ys i j e = ap (slice_get ys) (omega (arith, e))
 at-right (x ∷ xs) ys i zero e = absurd (omega (arith, e))
 at-right (x ∷ xs) ys i (suc j) e = at-right xs ys i j (omega (arith, e))
 
-pub row-place : (net : Net) (holds : ℕ → ℕ → Bool) (p : ℕ) → IsUpTo (length net.places) p →
-    item_at (suc p) (rows_of net holds) ≡ Some (place_row net.arcs p)
-row-place net holds zero u = absurd (omega (arith, u))
-row-place net holds (suc p) u =
-    at-left (numbered (place_row net.arcs) (length net.places)) (numbered (loop_row net holds) (length net.loops)) p
+pub row-place : (net : Net) (p : ℕ) → IsUpTo (length net.places) p →
+    item_at (suc p) (rows_of net) ≡ Some (place_row net.arcs p)
+row-place net zero u = absurd (omega (arith, u))
+row-place net (suc p) u =
+    at-left (numbered (place_row net.arcs) (length net.places)) (numbered (loop_row net) (length net.loops)) p
     (omega (arith, length-numbered (place_row net.arcs) (length net.places), u))
     ∙ item_at-numbered (place_row net.arcs) (length net.places) (suc p) u.0 u.1
 
-pub row-loop : (net : Net) (holds : ℕ → ℕ → Bool) (l : ℕ) → IsUpTo (length net.loops) l →
-    item_at (suc (length net.places + l)) (rows_of net holds) ≡ Some (loop_row net holds l)
-row-loop net holds zero u = absurd (omega (arith, u))
-row-loop net holds (suc l) u =
+pub row-loop : (net : Net) (l : ℕ) → IsUpTo (length net.loops) l →
+    item_at (suc (length net.places + l)) (rows_of net) ≡ Some (loop_row net l)
+row-loop net zero u = absurd (omega (arith, u))
+row-loop net (suc l) u =
     at-right (entry_row (length net.arcs) ∷ numbered (place_row net.arcs) (length net.places))
-    (numbered (loop_row net holds) (length net.loops)) l (length net.places + suc l)
+    (numbered (loop_row net) (length net.loops)) l (length net.places + suc l)
     (omega (arith, length-numbered (place_row net.arcs) (length net.places)))
-    ∙ item_at-numbered (loop_row net holds) (length net.loops) (suc l) u.0 u.1
+    ∙ item_at-numbered (loop_row net) (length net.loops) (suc l) u.0 u.1
 
 -- ---- Sums of differences.
 diff-mul : (a b x : ℕ) → (pos a -ℤ pos b) *ℤ pos x ≡ pos (a * x) -ℤ pos (b * x)
@@ -195,13 +185,13 @@ module _ (net : Net) (depth headed : ℕ → ℕ) where
 
   -- A loop's row, whether its number names a loop or not.
   loop-met : (x : ℕ → ℕ) (l : ℕ) → IsUpTo (length net.loops) l →
-      IsMet x (loop_row net (holds_of net) l)
+      IsMet x (loop_row net l)
       ↔ (sum_to (length net.arcs) (λ j. comes s (s.header l) j * x j)
       ≤ s.bound l * sum_to (length net.arcs) (λ j. goes_in s l j * x j))
   loop-met x l u = let loop = loop-at net l u in by loop.item loop.there
     where
       by : (inst : LoopInst) → item_at l net.loops ≡ Some inst →
-          IsMet x (loop_row net (holds_of net) l)
+          IsMet x (loop_row net l)
           ↔ (sum_to (length net.arcs) (λ j. comes s (s.header l) j * x j)
           ≤ s.bound l * sum_to (length net.arcs) (λ j. goes_in s l j * x j))
       by inst there =
@@ -222,29 +212,29 @@ module _ (net : Net) (depth headed : ℕ → ℕ) where
           )
 
   -- Counts that keep arc 1, the places and the loops meet the rows, and the other way round.
-  pub rows-kept : (x : ℕ → ℕ) → 1 ≤ length net.arcs → All (IsMet x) (rows_of net (holds_of net)) ↔ Keeps s x
+  pub rows-kept : (x : ℕ → ℕ) → 1 ≤ length net.arcs → All (IsMet x) (rows_of net) ↔ Keeps s x
   rows-kept x some = (
     λ all. record {
       first = first_from (sym (entry-sum x some) ∙ item_at-all (IsMet x) rows 1 (entry_row (length net.arcs)) all refl);
       kept = λ p u. (same_sums _ _ _ (place-sum x p)).0
-          (item_at-all (IsMet x) rows (suc p) (place_row net.arcs p) all (row-place net (holds_of net) p u));
+          (item_at-all (IsMet x) rows (suc p) (place_row net.arcs p) all (row-place net p u));
       bounded = λ l u. (loop-met x l u).0
-          (item_at-all (IsMet x) rows (suc (length net.places + l)) (loop_row net (holds_of net) l) all
-          (row-loop net (holds_of net) l u));
+          (item_at-all (IsMet x) rows (suc (length net.places + l)) (loop_row net l) all
+          (row-loop net l u));
     },
     λ keeps. All-cons (IsMet x) (entry_row (length net.arcs))
-        (numbered (place_row net.arcs) (length net.places) ++ numbered (loop_row net (holds_of net)) (length net.loops))
+        (numbered (place_row net.arcs) (length net.places) ++ numbered (loop_row net) (length net.loops))
         (entry-sum x some ∙ ap (λ (n : ℕ). pos n) keeps.first)
         (All-append (IsMet x) (numbered (place_row net.arcs) (length net.places))
-        (numbered (loop_row net (holds_of net)) (length net.loops))
+        (numbered (loop_row net) (length net.loops))
         (numbered-all (IsMet x) (place_row net.arcs) (length net.places)
         (λ p low high. (same_sums _ _ _ (place-sum x p)).1 (keeps.kept p (low, high))))
-        (numbered-all (IsMet x) (loop_row net (holds_of net)) (length net.loops)
+        (numbered-all (IsMet x) (loop_row net) (length net.loops)
         (λ l low high. (loop-met x l (low, high)).1 (keeps.bounded l (low, high))))),
   )
     where
       rows : List Row
-      rows = rows_of net (holds_of net)
+      rows = rows_of net
 
       first_from : pos (x 1) ≡ pos 1 → x 1 ≡ 1
       first_from e = omega (arith, ints)
@@ -253,12 +243,10 @@ module _ (net : Net) (depth headed : ℕ → ℕ) where
 pub feasible-kept : (net : Net) (price : ℕ → ℕ) (program : Program) (depth headed : ℕ → ℕ) (x : ℕ → ℕ) →
     IsNested net → IsProgramOf net price program → 1 ≤ length net.arcs →
     IsFeasible program x ↔ Keeps (shape_of net depth headed) x
-feasible-kept net price program depth headed x nested is some =
-    let rows : program.rows ≡ rows_of net (holds_of net) =
-    is.rows ∙ ap (rows_of net) (holds-same net is.holds nested is.told) in (
-      λ feasible. (rows-kept net depth headed x some).0 (subst (All (IsMet x)) rows feasible),
-      λ keeps. subst (All (IsMet x)) (sym rows) ((rows-kept net depth headed x some).1 keeps),
-    )
+feasible-kept net price program depth headed x nested is some = (
+  λ feasible. (rows-kept net depth headed x some).0 (subst (All (IsMet x)) is.rows feasible),
+  λ keeps. subst (All (IsMet x)) (sym is.rows) ((rows-kept net depth headed x some).1 keeps),
+)
 
 -- The value of a column is what its arc's end costs.
 pub value-table : (net : Net) (price : ℕ → ℕ) (program : Program) (depth headed : ℕ → ℕ) (j : ℕ) →
@@ -289,19 +277,16 @@ pub crude-net : (net : Net) (price : ℕ → ℕ) (program : Program) (depth hea
 crude-net net price program depth headed nested is deep =
     record {
       outside = is.outside;
-      low = subst (λ (n : ℕ). n ≤ crude_limit) (same ∙ sums) is.low;
+      low = subst (λ (n : ℕ). n ≤ crude_limit) sums is.low;
     }
   where
-    same : crude_of net is.holds price ≡ crude_of net (holds_of net) price
-    same = ap (λ (holds : ℕ → ℕ → Bool). crude_of net holds price) (holds-same net is.holds nested is.told)
-
     factor : (h : Bool) (b d : ℕ) → 1 ≤ d → cond h b 1 ≡ cond (h && nat_lt 0 d) b 1
     factor true b d low = grind (arith, nat_tests)
     factor false b d low = refl
 
-    sums : crude_of net (holds_of net) price
+    sums : crude_of net price
         ≡ sum_to (length net.places) (λ p. price p * grown (shape_of net depth headed) 0 p)
-    sums = sum-same (length net.places) (λ p. price p * turns_at net (holds_of net) p)
+    sums = sum-same (length net.places) (λ p. price p * turns_at net p)
         (λ p. price p * grown (shape_of net depth headed) 0 p)
         (λ p u. ap (λ n. price p * n)
         (product-same (length net.loops)

@@ -1,6 +1,7 @@
 -- The plain tables of a net.
-use Rattle.std.specs.Prelude.{◌≡◌, ℕ, zero, suc, ◌<◌, ◌==◌, ◌||◌, nat_lt, Bool, false, List, length, Option, Some, None, slice_index_or, if◌then◌else◌}
+use Rattle.std.specs.Prelude.{◌≡◌, ℕ, suc, ◌<◌, ◌==◌, nat_lt, List, length, Option, Some, None, slice_index_or, if◌then◌else◌}
 use Rattle.flow_net.specs.Numbers.{item_at}
+use Rattle.flow_net.specs.Scopes.{holds_of}
 use Rattle.flow_net.specs.Visits.{target_of}
 use Rattle.flow_net.specs.declared.net.LoopInst.{LoopInst}
 use Rattle.flow_net.specs.declared.net.Net.{Net}
@@ -37,20 +38,6 @@ scope_of (Some place) = place.scope
 abbrev pub outer_of : Option LoopInst → ℕ
 outer_of None = 0
 outer_of (Some inst) = inst.outer
-
--- Whether a scope is another one or lies within it, as far as n scopes outward tell.
-abbrev pub is_within : List LoopInst → (n outer scope : ℕ) → Bool
-is_within loops zero outer scope = scope == outer
-is_within loops (suc n) outer scope =
-    (scope == outer) || is_within loops n outer (outer_of (item_at scope loops))
-
--- Whether a scope holds a place. (`held-told` of proofs/NetShape.antt: it tells `Holds`.)
-abbrev pub holds_at : List LoopInst → (scope : ℕ) → Option Place → Bool
-holds_at loops scope None = false
-holds_at loops scope (Some place) = is_within loops (suc (length loops)) scope place.scope
-
-abbrev pub holds_of : Net → (scope place : ℕ) → Bool
-holds_of net scope place = holds_at net.loops scope (item_at place net.places)
 
 -- The depths of scopes: the run has 0, a loop instance one more than the next scope outward.
 pub record HasDepths (net : Net) (depth : ℕ → ℕ) : Type 0 where

@@ -1,9 +1,10 @@
 -- The tables that are made of a net once.
 use Rattle.std.specs.Prelude.{◌≡◌, ℕ, ◌+◌, ◌^◌, ◌≤◌, ◌==◌, ◌&&◌, not, Bool, false, List, length, slice_index_or}
+use Rattle.flow_net.specs.Scopes.{holds_of}
 use Rattle.flow_net.specs.Numbers.{item_at}
 use Rattle.flow_net.specs.Visits.{target_of}
 use Rattle.flow_net.specs.declared.net.Net.{Net}
-use Rattle.nest_solver.specs.Nets.{holds_of, source_of}
+use Rattle.nest_solver.specs.Nets.{source_of}
 use Rattle.nest_solver.specs.Shape.{IsUpTo}
 
 -- The net has at most 2^28 arcs, places and loop instances.

@@ -2,21 +2,9 @@ use Rattle.std.proofs.Common.{◌≡◌, ℕ, ◌==◌, ◌&&◌, not, Bool, tru
 use Rattle.std.proofs.lemmas.Bool.Decides.{nat_tests}
 use Rattle.flow_net.specs.Numbers.{item_at}
 use Rattle.flow_net.specs.Visits.{target_of}
-use Rattle.std.specs.Bool.{OnTrue, OnFalse}
-use Rattle.flow_net.specs.Scopes.{Holds}
-use Rattle.flow_net.specs.declared.net.Net.{Net}
-use Rattle.flow_net.specs.Nested.{IsNested}
-use Rattle.nest_solver.specs.Nets.{entry, holds_of}
-use Rattle.nest_solver.proofs.NetShape.{held-told}
+use Rattle.flow_net.specs.Scopes.{holds_of}
+use Rattle.nest_solver.specs.Nets.{entry}
 use Rattle.nest_solver.proofs.headers.returns.Goals as goal
-
-held_is : (net : Net) (scope place : ℕ) (b h : Bool) → holds_of net scope place ≡ h → IsNested net →
-    OnTrue b (Holds net scope place) → OnFalse b (Holds net scope place → ⊥) → b ≡ h
-held_is net scope place true true e nested inside outside = refl
-held_is net scope place true false e nested inside outside =
-    absurd (true≢false (sym ((held-told net nested scope place).1 inside) ∙ e))
-held_is net scope place false true e nested inside outside = absurd (outside ((held-told net nested scope place).0 e))
-held_is net scope place false false e nested inside outside = refl
 
 back_is : (t : ℕ) (b h : Bool) → (t ≡ 0 → ⊥) → b ≡ h → b ≡ (not (t == 0) && h)
 back_is t true h some e = grind (arith, nat_tests)
@@ -29,10 +17,8 @@ returns c =
     let headed = entry c.args.headed.now in
     let scope = headed c.target.result in
     let from = c.source-from.result in
-    let here = held_is net scope from c.held.result (holds_of net scope from) refl c.requires.nested c.held.ensures.held
-    c.held.ensures.free in
     record {
-      back = back_is scope c.held.result (holds_of net scope from) c.if-scope-eq0.false here
+      back = back_is scope c.held.result (holds_of net scope from) c.if-scope-eq0.false c.held.ensures.told
           ∙ ap (λ (to : ℕ). not (headed to == 0) && holds_of net (headed to) from) c.target.ensures
           ∙ ap (λ (p : ℕ). not (headed (target_of (item_at c.args.arc net.arcs)) == 0)
           && holds_of net (headed (target_of (item_at c.args.arc net.arcs))) p) c.source-from.ensures;
