@@ -142,13 +142,11 @@ only-first image entry net number arc (Enters one from at) zero_from = one
 only-first image entry net number arc (Leads more leads) zero_from =
     absurd (let positive = leads-from image net arc.from arc.to leads in omega (arith, positive, zero_from))
 
-runs-in : (image : Image) (entry : ℕ) (net : Net) → IsNet image entry net → CanReturn image entry → IsEntered net
-runs-in image entry net is can = record {
+runs-in : (image : Image) (entry : ℕ) (net : Net) → IsNet image entry net → IsEntered net
+runs-in image entry net is = record {
   first =
       let one = is.arcs.first in (one.0, one.1, one.2, place-positive net one.0.to 0 entry one.3);
   only = λ number arc there zero_from. only-first image entry net number arc (arc-of image entry net is number arc there) zero_from;
-  left =
-      let out = arc-out image entry net is can in (out.1.number, (record { from = out.0; to = 0 }, out.1.there, refl));
   reached = λ number numbered.
       let (place, there) = placed-at net number numbered in
       let comes = comes-to image entry net is place.context place.address (is.places.reached number place there) in
@@ -156,6 +154,13 @@ runs-in image entry net is can = record {
       place-once image entry net is comes.number number place.context place.address comes.at (own-place net number place there) in
       (comes.numbers, subst (IsRunPath net.arcs comes.numbers) same comes.path);
 }
+
+-- The return of the entry function goes to 0.
+end-arc : (image : Image) (entry : ℕ) (net : Net) → IsNet image entry net → CanReturn image entry →
+    (number : ℕ) × ((arc : NetArc) × (item_at number net.arcs ≡ Some arc) × (arc.to ≡ 0))
+end-arc image entry net is can =
+    let out = arc-out image entry net is can in
+    (out.1.number, (record { from = out.0; to = 0 }, out.1.there, refl))
 
 -- An instance holds its header.
 header-held : (image : Image) (entry : ℕ) (net : Net) → IsNet image entry net → AreRanked image net.contexts → (scope : ℕ) (inst : LoopInst) →
@@ -181,7 +186,8 @@ pub ranked-nested : (image : Image) (entry : ℕ) (net : Net) → IsNet image en
 ranked-nested image entry net is ranked can = record {
   numbers = numbers-own image entry net is;
   scopes = scopes-own image entry net is ranked;
-  entered = runs-in image entry net is can;
+  entered = runs-in image entry net is;
+  left = end-arc image entry net is can;
   held = header-held image entry net is ranked;
   bounds = all-by (λ (inst : LoopInst). 1 ≤ inst.bound) net.loops (λ n inst there.
       let loop = (is.loops.each n inst there).is_loop in

@@ -1,5 +1,5 @@
 -- How many scopes lie round one, and the depths of scopes that lie in one another.
-use Rattle.std.proofs.Common.{◌≡◌, ◌⊎◌, ℕ, zero, suc, ◌+◌, ◌<◌, ◌≤◌, List, Option, Some, None, refl, ap, inl, inr, arith}
+use Rattle.std.proofs.Common.{◌≡◌, ◌⊎◌, ℕ, zero, suc, ◌<◌, ◌≤◌, List, Option, Some, None, refl, ap, inl, inr, arith}
 use Rattle.flow_net.specs.Numbers.{item_at}
 use Rattle.flow_net.specs.Scopes.{IsWithin}
 use Rattle.flow_net.specs.Scopes.IsWithin.{here, out}

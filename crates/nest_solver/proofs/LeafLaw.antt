@@ -5,7 +5,6 @@ use Rattle.std.proofs.lemmas.Bool.{cases_Bool}
 use Rattle.std.proofs.lemmas.Int.{ints, fits_signed_from_abs}
 use lib.IntN.{ℤ, pos, ◌+ℤ◌, ◌*ℤ◌}
 use lib.Signed.{◌≤ℤ◌}
-use Rattle.flow_net.specs.Scopes.{holds_of}
 use Rattle.flow_net.specs.Numbers.{item_at, IsNumberOf}
 use Rattle.flow_net.specs.Nested.{IsNested}
 use Rattle.flow_net.specs.declared.net.Net.{Net}

@@ -1,6 +1,5 @@
 -- A loop within a loop, and its program, written out: the net is nested, and the program is that of the net.
 use Rattle.std.proofs.Common.{◌≡◌, ℕ, zero, suc, ◌^◌, ◌≤◌, List, [], ◌∷◌, length, true, false, refl, subst, sym, arith}
-use Rattle.flow_net.specs.Scopes.{holds_of}
 use Rattle.flow_net.specs.Nested.{IsNested}
 use Rattle.flow_net.specs.Numbers.{IsNumberOf}
 use Rattle.flow_net.specs.declared.net.Net.{Net}

@@ -1,5 +1,5 @@
 -- The accesses that a unit makes are those of its place in the net, stores apart: each has its number there.
-use Rattle.std.proofs.Common.{◌≡◌, ℕ, zero, suc, ◌+◌, Bool, true, false, List, [], ◌∷◌, ◌++◌, length, slice_get, All, Option, Some, None, refl, ap, sym, subst, ◌∙◌, arith}
+use Rattle.std.proofs.Common.{◌≡◌, ℕ, zero, suc, ◌+◌, Bool, true, false, List, [], ◌∷◌, ◌++◌, length, slice_get, Option, Some, None, refl, ap, sym, subst, ◌∙◌, arith}
 use Rattle.std.specs.Prelude.{option_map}
 use Rattle.std.specs.List.{AllZip, filter}
 use Rattle.std.proofs.lemmas.List.{append_assoc}
@@ -170,8 +170,7 @@ parts-match : (code : ℕ → Option ℕ) (place address : ℕ) (instr : Instr) 
     (unit_accesses place (record { instr = instr; slot = slot }) address)
 parts-match code place address instr None access has touches =
     let load : loaded address (option_map (λ (a : Touched). a.store) access) ≡ load_of (record { instr = instr; slot = None }) address =
-    ap (loaded address) touches ∙ touch-load instr address in
-    (
+    ap (loaded address) touches ∙ touch-load instr address in (
       record { own = refl; kind = refl; at = refl },
       subst (λ (o : Option ℕ). AllZip (Matches place) (filter goes (data_access address access)) (load_access place o)) load
           (data-matches place address access),
@@ -179,8 +178,7 @@ parts-match code place address instr None access has touches =
 parts-match code place address instr (Some slot) access has touches =
     let load : loaded (address + 4) (option_map (λ (a : Touched). a.store) access)
     ≡ load_of (record { instr = instr; slot = Some slot }) address =
-    ap (loaded (address + 4)) touches ∙ slot-load instr slot address has.0 in
-    (
+    ap (loaded (address + 4)) touches ∙ slot-load instr slot address has.0 in (
       record { own = refl; kind = refl; at = refl },
       (
         record { own = refl; kind = refl; at = refl },

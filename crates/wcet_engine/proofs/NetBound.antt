@@ -14,6 +14,7 @@ use Rattle.elf_mips.specs.Segments.{IsFilled}
 use Rattle.elf_mips.specs.Segments.{code_at as image_code}
 use Rattle.flow_net.specs.Numbers.{item_at}
 use Rattle.flow_net.specs.Paths.{IsRunPath}
+use Rattle.flow_net.specs.Scopes.{HasScopes}
 use Rattle.flow_net.specs.Visits.{KeepsBound, KeepsBounds, ends, enters, passes, returns, target_of, targets_along}
 use Rattle.flow_net.specs.declared.net.LoopInst.{LoopInst}
 use Rattle.flow_net.specs.declared.net.Net.{Net}
@@ -24,7 +25,7 @@ use Rattle.ipet_program.specs.Counts.{IsFeasible, arc_cost, counts_of, path_cost
 use Rattle.ipet_program.specs.Programs.{IsProgramOf, place_price, price_at}
 use Rattle.ipet_program.specs.declared.program.Program.{Program}
 use Rattle.ipet_program.proofs.RunCounts.{AreRunCounts, run-counts}
-use Rattle.mips_decode.specs.Run.{HasReturned, last_state}
+use Rattle.mips_decode.specs.Run.{last_state}
 use Rattle.mips_decode.specs.State.{State, code_at, return_address}
 use Rattle.mips_decode.specs.Step.{Returned, Went}
 use Rattle.mips_decode.specs.Units.{ReturnsToCallers, RunUnit, units_of, visits}
@@ -130,12 +131,12 @@ path-places price none arcs (number ∷ numbers) =
 
 -- So the counts of a run that has returned are feasible, and their value is its cycles.
 run-counted : (profile : Profile) (image : Image) (entry : ℕ) (net : Net) (program : Program) (s : State) (states : List State) →
-    IsNet image entry net → IsProgramOf net (place_price profile image net) program → s.pc ≡ entry →
+    IsNet image entry net → HasScopes net → IsProgramOf net (place_price profile image net) program → s.pc ≡ entry →
     KeepsRecords image entry (units_of (image_code image.segments) s states) → (last_state s states).pc ≡ return_address →
     IsWholeAlong image entry net s states →
     IsCounted net program entry (units_of (image_code image.segments) s states)
     (run_cost (costs_of profile) (units_of (image_code image.segments) s states))
-run-counted profile image entry net program s states is of_net begins records place whole =
+run-counted profile image entry net program s states is scopes of_net begins records place whole =
     let did : List RunUnit = units_of (image_code image.segments) s states in
     let price : ℕ → ℕ = place_price profile image net in
     let rest = whole.rest in
@@ -151,7 +152,7 @@ run-counted profile image entry net program s states is of_net begins records pl
     records.bounds net is did [] (sym (append-nil did)) rest.places (done-visited image net did rest.places rest.done) in
     let kept : KeepsBounds net (targets_along net.arcs (arcs_of moments)) =
     subst (KeepsBounds net) (sym targets) (keep-end image entry net is rest.places keeps) in
-    let counts : AreRunCounts net price program moments = run-counts net price program of_net moments path kept in
+    let counts : AreRunCounts net price program moments = run-counts net scopes price program of_net moments path kept in
     let along = path-places price of_net.outside net.arcs (arcs_of moments) in
     let places : sum_by price (targets_along net.arcs (arcs_of moments)) ≡ sum_by price (rest.places ++ 0 ∷ []) =
     ap (sum_by price) targets in
@@ -197,7 +198,7 @@ counts-runs image profile entry net program is of_net m start machines spoken re
       callers = subst ReturnsToCallers units spoken.callers;
     } in
     let counted : IsCounted net program entry did (run_cost (costs_of profile) did) =
-    run-counted profile image entry net program m.values states is.is_net of_net start.values.pc records returned.place
+    run-counted profile image entry net program m.values states is.is_net is.nested.scopes of_net start.values.pc records returned.place
     (whole-along image entry net is.is_net is.units m.values states kept) in
     let costs : run_cost m.costs did ≡ run_cost (costs_of profile) did = ap (λ (c : Costs). run_cost c did) start.costs in
     let cycles = runs.cycles in

@@ -91,7 +91,7 @@ large-same a b profile other entry same costs is =
     record {
       net = is.net;
       is_net = net-same a b entry is.net (code-of a b same) is.is_net;
-      large = λ holds told. subst (λ (price : ℕ → ℕ). crude_limit < crude_of is.net holds price) price (is.large holds told);
+      large = subst (λ (price : ℕ → ℕ). crude_limit < crude_of is.net price) price is.large;
     }
 
 many-same : (a b : Image) (entry : ℕ) → IsSame a b → IsTooMany a entry → IsTooMany b entry

@@ -47,7 +47,7 @@ fitting : (image : Image) (profile : Profile) (entry : ℕ) (net : Net) (certifi
 fitting image profile entry net certificate is certifies large =
     let same : large.net ≡ net = net-once image entry large.net net large.is_net is.is_net in
     let program = certifies.is in
-    let above = subst (IsLargeNet image profile) same large.large program.holds program.told in
+    let above = subst (IsLargeNet image profile) same large.large in
     let low = program.low in
     omega (arith, above, low)
 

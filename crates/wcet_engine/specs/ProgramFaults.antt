@@ -1,6 +1,6 @@
 -- The program at an entry of an image, under a profile: its faults, which of them is answered, and what its analysis
 -- says where it has none.
-use Rattle.std.specs.Prelude.{◌≡◌, ℕ, ◌<◌, ◌≤ℤ◌, pos, Bool}
+use Rattle.std.specs.Prelude.{◌≡◌, ℕ, ◌<◌, ◌≤ℤ◌, pos}
 use Rattle.cache_config.specs.declared.profile.Profile.{Profile}
 use Rattle.call_contexts.specs.Programs.{AreTooMany, HasNoReturn}
 use Rattle.call_contexts.specs.Sizes.{AreSizes}
@@ -9,7 +9,6 @@ use Rattle.flow_net.specs.declared.net.Net.{Net}
 use Rattle.ipet_program.specs.Certificates.{IsValid}
 use Rattle.ipet_program.specs.Counts.{IsFeasible, value_of}
 use Rattle.ipet_program.specs.Programs.{IsProgramOf, crude_limit, crude_of, place_price}
-use Rattle.ipet_program.specs.Scopes.{TellsHeld}
 use Rattle.ipet_program.specs.declared.program.Program.{Program}
 use Rattle.loop_nest.specs.Programs.{IsIrreducibleIn, IsUnboundedIn}
 use Rattle.net_model.specs.declared.unit.CodeKind.{CodeKind}
@@ -42,11 +41,9 @@ pub record IsTooMany (image : Image) (entry : ℕ) : Type 0 where
   pub sizes : AreSizes image entry contexts places
   pub many : AreTooMany contexts places
 
--- The crude bound of a net is above its limit: the price of each place, times the bounds of the loops that hold it. A
--- nested net has a test that tells what is held (`held_test-tells` of ipet_program/proofs/Held.antt).
+-- The crude bound of a net is above its limit: the price of each place, times the bounds of the loops that hold it.
 abbrev pub IsLargeNet : Image → Profile → Net → Type 0
-IsLargeNet image profile net =
-    (holds : ℕ → ℕ → Bool) → TellsHeld net holds → crude_limit < crude_of net holds (place_price profile image net)
+IsLargeNet image profile net = crude_limit < crude_of net (place_price profile image net)
 
 -- The crude bound of the program's net is above its limit.
 pub record IsTooLarge (image : Image) (profile : Profile) (entry : ℕ) : Type 0 where

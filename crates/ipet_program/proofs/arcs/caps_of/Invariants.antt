@@ -1,5 +1,5 @@
 -- The caps so far are those of the arcs so far.
-use Rattle.std.proofs.Common.{◌≡◌, ℕ}
+use Rattle.std.proofs.Common.{◌≡◌}
 use Rattle.flow_net.specs.Numbers.{item_at}
 use Rattle.ipet_program.specs.Programs.{arc_cap}
 use Rattle.ipet_program.specs.Sums.{numbered}
