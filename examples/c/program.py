@@ -217,6 +217,23 @@ def functions(code, entry):
     return found
 
 
+def size(found, entry):
+    """How many contexts and places the analyser makes of a function, or none where a function calls itself."""
+    sizes, work = {}, [(entry, False)]
+    while work:
+        address, left = work.pop()
+        called = found[address].calls
+        if left:
+            if any(not sizes.get(other) for other in called):
+                return None
+            contexts = 1 + sum(sizes[other][0] for other in called)
+            sizes[address] = contexts, len(found[address].next) + sum(sizes[other][1] for other in called)
+        elif address not in sizes:
+            sizes[address] = None
+            work += [(address, True)] + [(other, False) for other in called]
+    return sizes[entry]
+
+
 class Bound:
     """A record of a loop: how many visits it allows its header, and the unit at which it stands."""
 

@@ -19,7 +19,7 @@ status 1 where there is one.
 import sys
 
 sys.dont_write_bytecode = True
-from program import LOOP, RANGE, TARGET, Code, Elf, Places, bounds, functions  # noqa: E402
+from program import LOOP, RANGE, TARGET, Code, Elf, Places, bounds, functions, size  # noqa: E402
 
 
 class Report:
@@ -84,21 +84,9 @@ class Report:
         self.tell(line if address in self.instructions else f"nothing: {line}")
 
     def tell_size(self, entry):
-        """How many contexts and places the analyser makes, if no function calls itself."""
-        sizes = {}
-
-        def size(function):
-            if function not in sizes:
-                sizes[function] = None
-                held = self.functions[function]
-                below = [size(called) for called in held.calls]
-                if None in below:
-                    return None
-                sizes[function] = (1 + sum(n for n, _ in below), len(held.next) + sum(n for _, n in below))
-            return sizes[function]
-
-        if size(entry):
-            self.tell("size: {:,} contexts, {:,} places".format(*size(entry)))
+        sizes = size(self.functions, entry)
+        if sizes:
+            self.tell("size: {:,} contexts, {:,} places".format(*sizes))
 
 
 def passes_by(function, header, unit):
@@ -123,5 +111,4 @@ def main(path, name):
 if __name__ == "__main__":
     if len(sys.argv) != 3:
         raise SystemExit(__doc__)
-    sys.setrecursionlimit(10_000)
     sys.exit(main(sys.argv[1], sys.argv[2]))
