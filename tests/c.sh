@@ -89,7 +89,19 @@ compare_with_run() {
     echo "$1: bound $bound, run $run (${2##*/})"
 }
 
-# Builds the analyser where it is missing or old.
+# A number with commas.
+grouped() {
+    sed ':a; s/\B[0-9]\{3\}\>/,&/; ta' <<<"$1"
+}
+
+# The guide has this text, if it was written for this compiler and these flags.
+tell_guide() {
+    if [ "$words" -eq 0 ] && [ "$compiler" = "$(told sort compiler)" ] && is_there qemu-mips; then
+        check "the guide: $1" "$(grep -cF -- "$1" "$top/docs/GUIDE.md")" 1
+    fi
+}
+
+# Builds the analyser if it is missing or old.
 "$wcet" >"$work/analyser.log" 2>&1
 if [ $? -ne 1 ]; then
     cat "$work/analyser.log"
@@ -97,7 +109,8 @@ if [ $? -ne 1 ]; then
     exit 1
 fi
 
-compiler=$(mips-linux-gnu-gcc --version | head -n 1)
+compiler=$(mips-linux-gnu-gcc --version | sed -n 1p)
+words=$#
 for name in sort crc matrix crossing find levels filter search frames; do
     build "$name.log" "$@" "$work/$name.elf"
     check "$name: built" "$? $(grep -v -e "$said" -e '^nothing: .*(memmove' "$work/$name.log")" "0 "
@@ -106,6 +119,7 @@ for name in sort crc matrix crossing find levels filter search frames; do
     compare_with_sheet "$name"
     trace "$name" "$(told "$name" result)"
     compare_with_run "$name" "$plain"
+    tell_guide " | $(grouped "$bound") | $(grouped "${run:-0}") |"
     analyse "$name" "$board"
     compare_with_run "$name" "$board"
 done
@@ -117,6 +131,33 @@ if [ -e "$work/widths.elf" ]; then
     analyse widths "$plain"
     trace widths 0
     compare_with_run widths "$plain"
+fi
+
+# The causes of a bound far above the run, as the guide tells them with their numbers: each function, and how it is mended.
+build loose.log "$@" "$work/loose.elf"
+check "loose: built" "$? $(grep -v "$said" "$work/loose.log")" "0 "
+if [ -e "$work/loose.elf" ]; then
+    trace loose 0
+    for name in once once_mended rotated rotated_mended arms arms_mended; do
+        echo "entry = \"$name\"" >"$work/$name.toml"
+        analyse loose "$work/$name.toml"
+        compare_with_run loose "$work/$name.toml"
+        tell_guide "\`$name\`: $(grouped "$bound"), $(grouped "${run:-0}")"
+    done
+fi
+
+# 4,095 contexts. By hand: 2,048 calls of the last function (33 cycles), 2,046 of those between (141), and the task (174).
+build contexts.log "$@" "$work/contexts.elf"
+check "contexts: built" "$? $(grep -v '^size: ' "$work/contexts.log")" "0 "
+if [ -e "$work/contexts.elf" ]; then
+    analyse contexts "$plain"
+    trace contexts 0
+    compare_with_run contexts "$plain"
+    if [ "$words" -eq 0 ] && [ "$compiler" = "$(told sort compiler)" ]; then
+        check "contexts: the bound" "$bound" 356244
+        check "contexts: the size" "$(cat "$work/contexts.log")" 'size: 4,095 contexts, 20,475 places'
+    fi
+    tell_guide 'These are 4,095 contexts with 20,475 places, and the bound is 356,244.'
 fi
 
 # Another entry than the task.
