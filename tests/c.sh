@@ -32,6 +32,10 @@ if ! is_there mips-linux-gnu-gcc || ! is_there make; then
     echo 'skipped: no compiler for MIPS'
     exit 0
 fi
+if ! python3 -c 'import tomllib' 2>/dev/null; then
+    echo 'skipped: profiles are read by Python 3.11 and later'
+    exit 0
+fi
 is_there qemu-mips || echo 'skipped: the runs, without QEMU for MIPS'
 single=-singlestep
 qemu-mips -help 2>/dev/null | grep -q one-insn-per-tb && single=-one-insn-per-tb
@@ -131,6 +135,24 @@ if [ -e "$work/widths.elf" ]; then
     analyse widths "$plain"
     trace widths 0
     compare_with_run widths "$plain"
+fi
+
+# A second source: the functions of memory.c, called by name and by the compiler.
+build copies.log "$@" --eval "$work/copies.elf: $work/memory.o" "$work/copies.elf"
+check "copies: built" "$? $(grep -v "$said" "$work/copies.log")" "0 "
+if [ -e "$work/copies.elf" ]; then
+    analyse copies "$plain"
+    trace copies 0
+    compare_with_run copies "$plain"
+fi
+
+# A trace without registers serves for all but ranges.
+if is_there qemu-mips; then
+    qemu-mips $single -d exec,nochain -D "$work/short.trace" "$work/crc.elf"
+    check "without registers: loops" "$("$top/examples/c/kept.py" "$work/crc.elf" "$work/short.trace" task |
+        grep -c -e 'visited 3 of 3$' -e 'visited 10 of 10$' -e 'the trace has no registers$')" 3
+    check "without registers: cycles" "$("$cycles" run "$work/crc.elf" "$work/short.trace")" \
+        "$("$cycles" run "$work/crc.elf" "$work/crc.trace")"
 fi
 
 # The causes of a bound far above the run, as the guide tells them with their numbers: each function, and how it is mended.
