@@ -82,6 +82,7 @@ def tried(edit, wcet, plain, words):
 def main(wcet, plain, *words):
     if not shutil.which("qemu-mips"):
         print("skipped: the broken runs, without QEMU for MIPS")
+    wcet, plain = (str(pathlib.Path(path).resolve()) for path in (wcet, plain))
     passed = failed = 0
     for path in sorted((TOP / "tests" / "c" / "broken").glob("*.edit")):
         edit = Edit(path)
