@@ -44,8 +44,7 @@ class Watch:
         for function in self.functions.values():
             self.add_loops(function)
         self.targets = {
-            unit: set() for function in self.functions.values() for unit in function.next
-            if self.code.is_indirect(unit) and not self.code.is_jump_to_link(unit)
+            unit: set() for function in self.functions.values() for unit in function.next if self.is_recorded(unit)
         }
         self.ranges = {}
         for kind, address, x, y in elf.records:
@@ -53,6 +52,10 @@ class Watch:
                 self.ranges.setdefault(address, []).append((x, y))
         self.inside = dict.fromkeys(self.ranges, 0)
         self.visits, self.stack, self.runs, self.broken = {}, None, 0, []
+
+    def is_recorded(self, address):
+        """Whether a transfer needs records of where it goes."""
+        return self.code.is_indirect(address) and not self.code.is_jump_to_link(address)
 
     def add_loops(self, function):
         for header, found in bounds(self.elf, self.code, function).items():
@@ -105,8 +108,8 @@ class Watch:
 
     def transfer(self, frames, address, onward):
         """Goes along a call or a return, and looks whether an indirect transfer has a record of where it goes."""
-        if address in self.targets and onward is not None:
-            self.targets[address].add(onward)
+        if self.is_recorded(address) and onward is not None:
+            self.targets.setdefault(address, set()).add(onward)
             if onward not in self.code.targets.get(address, ()):
                 self.breaks("the transfer at", address, "goes to", onward, "which isn't recorded")
         if self.code.is_jump_to_link(address):
