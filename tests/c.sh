@@ -146,6 +146,17 @@ if [ -e "$work/copies.elf" ]; then
     compare_with_run copies "$plain"
 fi
 
+# A run that returns past its caller, of which the bound says nothing.
+build skips.log "$work/skips.elf"
+if is_there qemu-mips; then
+    qemu-mips $single -d exec,nochain,cpu -D "$work/skips.trace" "$work/skips.elf"
+    check "a return past the caller: the run's result" "$?" 0
+    "$top/examples/c/kept.py" "$work/skips.elf" "$work/skips.trace" task >"$work/kept"
+    check "a return past the caller: status" "$?" 1
+    check "a return past the caller" "$(sed -n 's/ at .* comes/ comes/p' "$work/kept")" \
+        'broken: the return comes back elsewhere than after its call'
+fi
+
 # A trace without registers serves for all but ranges.
 if is_there qemu-mips; then
     qemu-mips $single -d exec,nochain -D "$work/short.trace" "$work/crc.elf"

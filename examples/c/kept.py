@@ -114,7 +114,7 @@ class Watch:
                 self.breaks("the transfer at", address, "goes to", onward, "which isn't recorded")
         if self.code.is_jump_to_link(address):
             if onward != frames.pop().back:
-                self.breaks("the return at", address, "goes elsewhere than behind its call")
+                self.breaks("the return at", address, "comes back elsewhere than after its call")
             if not frames:
                 frames.append(Frame(self.functions[self.entry], None))
         elif self.code.links(address) and onward not in (None, address + 8):
