@@ -5,6 +5,10 @@
 set -eu
 program=${1:?the built decode_words}
 forms=$(dirname "$0")/assembler.txt
+if ! [ -x "$program" ]; then
+    echo "failed: decode_words isn't built: there is no program $program; rt run in crates/decode_words builds it"
+    exit 1
+fi
 work=$(mktemp -d)
 trap 'rm -rf "$work"' EXIT
 

@@ -58,12 +58,15 @@ trial "a missing profile" 3 "" "read fault" analyse return.elf missing
 trial "a file that is too long, and a missing profile" 2 "refused too-long 01000000" "" analyse too-long missing
 trial "a word too many" 1 "" "usage" analyse return.elf empty empty
 trial "a command without its file" 1 "" "usage" analyse
-trial "a word for help" 1 "" "usage" --help
 trial "an unknown command" 1 "" "usage" analyze return.elf
 trial "a file named like an option, missing" 3 "" "read fault" analyse --help
 trial "an empty file name" 3 "" "read fault" analyse ""
 trial "a file whose name begins with a dash" 0 "$once" "" analyse -dashed.elf
 trial "a word that is no text" 1 "" "usage" analyse $'\xff'
+
+# `./wcet` answers this word itself (tests/help.sh); to the program it is a word like others.
+"$top/crates/wcet_cli/out/wcet_cli" --help >out.txt 2>err.txt
+check "a word for help" "$? $(cat out.txt)|$(cat err.txt)" "1 |usage"
 
 # A pipe can't seek, and gives the file in one piece or in several.
 (head -c 40 return.elf; sleep 0.2; tail -c +41 return.elf) |

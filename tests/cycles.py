@@ -1,14 +1,14 @@
 #!/usr/bin/env python3
-"""What a built program costs under the plain profile, without the analyser: by a sheet, and by the trace of a run.
+"""What a built program costs without the analyser: by a sheet, and by the trace of a run.
 
-usage: cycles.py sum ELF SHEET       the cycles that the sheet adds up
-       cycles.py run ELF TRACE       the cycles of a traced run, from the entering of `task` to its return
-       cycles.py code ELF            the checksum of the code and its records
+usage: cycles.py run ELF TRACE [PROFILE]   the cycles of the dearest traced run of the profile's entry, from call to return
+       cycles.py sum ELF SHEET [PROFILE]   the cycles that the sheet adds up
+       cycles.py code ELF                  the checksum of the code and its records
 
-A sheet (examples/c/sums) was written by hand beside a disassembly. Each line `TIMES FIRST LAST ..` of it says that the
-instructions from FIRST to LAST run so often in the dearest way that the records allow. A trace has one line for each
-instruction, as `qemu-mips -singlestep -d exec,nochain` writes it. An instruction costs a cycle and its fetch ten; a load
-or store ten more.
+Without PROFILE, which is read by Python 3.11 and later, the costs are the plain ones and the entry is `task`. A trace is
+what QEMU writes (examples/c/traces.py). A sheet (examples/c/sums) was written by hand beside a disassembly. Each line
+`TIMES FIRST LAST ..` of it says that the instructions from FIRST to LAST run so often in the dearest way that the records
+allow.
 """
 import hashlib
 import os
@@ -17,41 +17,48 @@ import sys
 
 sys.dont_write_bytecode = True
 sys.path.insert(0, os.path.join(os.path.dirname(os.path.abspath(__file__)), "..", "examples", "c"))
-from records import LOADS, STORES, Elf  # noqa: E402
+from executables import Profile  # noqa: E402
+from instructions import Instruction  # noqa: E402
+from program import Elf  # noqa: E402
+from traces import calls  # noqa: E402
 
 
-def price(elf, address):
-    return 11 + (10 if elf.words[address] >> 26 in LOADS + STORES else 0)
+def profile_of(path):
+    """The costs and the entry that a profile's text gives."""
+    import tomllib
+    with open(path, "rb") as file:
+        told = tomllib.load(file)
+    costs = {name: told[name] for name in ("memory", "store", "cycles") if name in told}
+    return Profile(entry=told.get("entry"), **costs)
 
 
-def added(elf, sheet):
+def price(elf, profile, address):
+    """The cycles of an instruction: its class's, its fetch, and its load or store."""
+    kind = Instruction(elf.words[address]).kind
+    if kind is None:
+        raise SystemExit(f"no instruction stands at {address:08X}")
+    own = {"load": profile.memory, "store": profile.store}.get(kind, 0)
+    return profile.cycles[kind] + profile.memory + own
+
+
+def added(elf, sheet, profile):
     """The sum of a sheet's lines."""
     total = 0
     for line in sheet:
         found = re.match(r"(\d+) +([0-9A-F]{8}) ([0-9A-F]{8})\b", line)
         if found:
             first, last = int(found[2], 16), int(found[3], 16)
-            total += int(found[1]) * sum(price(elf, address) for address in range(first, last + 4, 4))
+            total += int(found[1]) * sum(price(elf, profile, address) for address in range(first, last + 4, 4))
     return total
 
 
-def traced(elf, trace):
-    """The cycles of the instructions between the first call of `task` and the one behind its slot."""
-    entry, total, back, last = elf.symbols["task"], 0, None, []
-    for line in trace:
-        found = re.match(r"Trace 0: 0x[0-9a-f]+ \[[0-9a-f]+/([0-9a-f]+)/", line)
-        if not found:
-            continue
-        address = int(found[1], 16)
-        if back is None and address == entry:
-            # A slot is traced by itself, so the call is the one before the last.
-            back = last[-2] + 8
-        if address == back:
-            return total
-        if back is not None:
-            total += price(elf, address)
-        last = last[-1:] + [address]
-    raise SystemExit("the traced run doesn't return from task")
+def traced(elf, trace, profile):
+    """The cycles of the dearest run of the entry."""
+    entry = elf.entry if profile.entry is None else elf.address_of(profile.entry)
+    sums = [sum(price(elf, profile, step.address) for step in steps) for steps in calls(trace, entry)]
+    if not sums:
+        raise SystemExit("the trace has no call of the entry")
+    return max(sums)
 
 
 def checksum(elf):
@@ -64,9 +71,10 @@ def checksum(elf):
 def main(words):
     if len(words) == 2 and words[0] == "code":
         return checksum(Elf(words[1]))
-    if len(words) == 3 and words[0] in ("sum", "run"):
+    if len(words) in (3, 4) and words[0] in ("sum", "run"):
+        profile = profile_of(words[3]) if len(words) == 4 else Profile(entry="task")
         with open(words[2]) as file:
-            return (added if words[0] == "sum" else traced)(Elf(words[1]), file)
+            return (added if words[0] == "sum" else traced)(Elf(words[1]), file, profile)
     raise SystemExit(__doc__)
 
 

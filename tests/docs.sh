@@ -1,6 +1,6 @@
 #!/usr/bin/env bash
 # That docs/ tells of all that stands: each definitions' file in DEFINITIONS.md, each crate in README.md and ARCHITECTURE.md,
-# each refusal in GUIDE.md.
+# each refusal in GUIDE.md, with the cause and the cure that `wcet` prints by docs/causes.txt.
 set -u
 cd "$(dirname "$0")/.."
 missing=0
@@ -24,9 +24,17 @@ for crate in $(grep -oE '^[a-z_]+' crates.txt); do
     done
 done
 
-for kind in $(grep -oE '=> "[a-z-]+"' crates/wcet_engine/src/refusal.rt | grep -oE '[a-z-]{3,}'); do
-    grep -qF "\`refused $kind " docs/GUIDE.md || tell "docs/GUIDE.md says nothing of the refusal $kind"
+kinds=$(grep -oE '=> "[a-z-]+"' crates/wcet_engine/src/refusal.rt | grep -oE '[a-z-]{3,}')
+for kind in $kinds; do
+    rows=$(grep -c "^$kind [^ ]* | [^|]* | [^|]*$" docs/causes.txt)
+    [ "$rows" -eq 1 ] || tell "docs/causes.txt has $rows rows of the refusal $kind"
 done
+[ "$(grep -vc '^#' docs/causes.txt)" -eq "$(wc -w <<<"$kinds")" ] || tell "docs/causes.txt has another row"
+
+# The rows of the guide's table, in their order, are those of the causes.
+while read -r row; do
+    tell "docs/GUIDE.md and docs/causes.txt differ: $row"
+done < <(diff <(sed -n 's/^| `refused \([a-z-]* [^ ]*\)` | \(.*\) |$/\1 | \2/p' docs/GUIDE.md) <(grep -v '^#' docs/causes.txt) | grep '^[<>]')
 
 echo "docs: $missing missing"
 [ "$missing" -eq 0 ]

@@ -16,6 +16,11 @@ SECTIONS
 
     . = ALIGN(0x10000);
     .data : { *(.data .data.*) } :data
+
+    /* Small data (-G8), 64 KiB that register 28 reaches from the middle. */
+    _gp = ALIGN(16) + 0x7FF0;
+    .sdata : { *(.sdata .sdata.* .lit4 .lit8) } :data
+    .sbss : { *(.sbss .sbss.* .scommon) } :data
     .bss : { *(.bss .bss.* COMMON) } :data
 
     /* Not loaded, and kept where the linker drops what nothing names (--gc-sections). */

@@ -4,6 +4,8 @@
     .globl __start
     .type __start, @function
 __start:
+    lui $28, %hi(_gp)           /* for small data (-G8) */
+    addiu $28, $28, %lo(_gp)
     addiu $29, $29, -24         /* 16 bytes of it are the task's, for its arguments */
     jal task
     nop

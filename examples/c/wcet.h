@@ -4,7 +4,8 @@
  *                                          its body runs at most so often
  *     value = WCET_LOAD(a[i], a);          reads a[i]; all its bytes lie in the array a
  *     WCET_STORE(a[i], a, value);          writes a[i]; all its bytes lie in the array a
- *     value = WCET_CALL(f, argument, g, h);   calls f, which is one of g and h (up to eight functions of one word)
+ *     value = WCET_CALL(f, argument, g, h);   calls f, which is one of g and h (one to eight functions of one word)
+ *     value = WCET_CALL0(f, g, h);         the same with functions that take nothing
  *
  * The compiler may copy code. Then a record would stand beside one copy alone, or land in another loop and bound that one.
  * So each macro labels its instruction with a name of the file's own, numbered by __COUNTER__: a second copy defines
@@ -33,10 +34,18 @@
 #define WCET_LOOP(turns) WCET_LOOP_(WCET_TEXT(__COUNTER__), turns)
 #define WCET_LOOP_(n, turns)                                                          \
     do {                                                                              \
-        _Static_assert((long long)(turns) >= 0 && (long long)(turns) < 0xFFFFFFFF, "turns of a loop"); \
+        _Static_assert(WCET_IS_CONSTANT(turns), "WCET_LOOP: the number of turns is not a constant"); \
+        _Static_assert(WCET_CONSTANT(turns) >= 0 && WCET_CONSTANT(turns) < 0xFFFFFFFF, \
+                       "WCET_LOOP: the number of turns is not from 0 to 4294967294"); \
         __asm__ volatile(WCET_KEPT(WCET_LABEL(n) "nop\n\t") WCET_RECORD(n, "1", "%0", "0") \
-                         : : "i"((unsigned)(turns) + 1));                             \
+                         : : "i"((unsigned)WCET_CONSTANT(turns) + 1));                \
     } while (0)
+
+/* Whether an expression is a constant: only then is the middle operand a null pointer, and the type of all int *. */
+#define WCET_IS_CONSTANT(number) (sizeof(*(1 ? (void *)((long)(number) * 0L) : (int *)0)) == sizeof(int))
+
+/* The number that a constant is, and 0 for all others, which have a message of their own. */
+#define WCET_CONSTANT(number) ((long long)__builtin_choose_expr(WCET_IS_CONSTANT(number), (number), 0))
 
 /* Whether a type has a sign; the array's first byte and the one behind its last. */
 #define WCET_SIGNED(place) ((__typeof__(place))-1 < (__typeof__(place))1)
@@ -75,32 +84,71 @@
                          : "r"(wcet_value), "i"(sizeof(place)), WCET_BYTES(array));   \
     } while (0)
 
-/* An indirect call with one word as its argument and its result. 16 bytes of the stack are the callee's, for its
- * arguments. All registers that a callee may change are told to the compiler. */
-#define WCET_CALL(function, argument, ...) \
-    WCET_CALL_(WCET_TEXT(__COUNTER__), WCET_COUNT(__VA_ARGS__), function, argument, __VA_ARGS__)
-#define WCET_CALL_(n, count, function, argument, ...)                                 \
+/* An indirect call with one word as its argument and at most one as its result; WCET_CALL0 has no argument. The compiler
+ * looks at how many arguments the function takes, and the assertions at their types, since the call itself passes
+ * register 4 alone and takes register 2. */
+#define WCET_CALL(function, argument, ...)                                            \
     ({                                                                                \
-        long wcet_f = (long)(function), wcet_a = (long)(argument);                    \
-        register long wcet_25 __asm__("$25") = wcet_f;                                \
-        register long wcet_4 __asm__("$4") = wcet_a;                                  \
-        register long wcet_2 __asm__("$2");                                           \
-        __asm__ volatile(WCET_KEPT("addiu $29, $29, -16\n\t" WCET_LABEL(n)            \
-                                   "jalr $25\n\tnop\n\t"                              \
-                                   "addiu $29, $29, 16\n\t")                          \
-                         WCET_JOIN(WCET_GOES_, count)(n)                              \
-                         : "=r"(wcet_2), "+r"(wcet_25), "+r"(wcet_4)                  \
-                         : WCET_JOIN(WCET_EACH_, count)(__VA_ARGS__)                  \
-                         : "$1", "$3", "$5", "$6", "$7", "$8", "$9", "$10", "$11", "$12", "$13", \
-                           "$14", "$15", "$24", "$31", "hi", "lo", "memory");         \
-        wcet_2;                                                                       \
+        typedef __typeof__(*(function)) wcet_type;                                    \
+        typedef __typeof__((function)(argument)) wcet_result;                         \
+        _Static_assert(WCET_TAKES(wcet_type, wcet_result, argument),                  \
+                       "WCET_CALL: the parameter must be int, long, void * or of the type of the argument, and one word"); \
+        WCET_CALL_(WCET_TEXT(__COUNTER__), WCET_COUNT(__VA_ARGS__), function, (long)(argument), __VA_ARGS__); \
+    })
+#define WCET_CALL0(function, ...)                                                     \
+    ({                                                                                \
+        typedef __typeof__(*(function)) wcet_type;                                    \
+        typedef __typeof__((function)()) wcet_result;                                 \
+        _Static_assert(WCET_ALIKE(wcet_type, wcet_result(void)) && WCET_TELLS(wcet_type, wcet_result), \
+                       "WCET_CALL0: the function is not declared to take nothing");   \
+        WCET_CALL_(WCET_TEXT(__COUNTER__), WCET_COUNT(__VA_ARGS__), function, 0, __VA_ARGS__); \
     })
 
-/* How many targets there are, a record for each, and the operand of each. */
+/* Whether two types are the same; whether a function of this type tells what it takes, unlike int f(); whether it takes
+ * the argument as one word. */
+#define WCET_ALIKE(first, second) __builtin_types_compatible_p(first, second)
+#define WCET_TELLS(type, result) !WCET_ALIKE(type, result(int, int))
+#define WCET_TAKES(type, result, argument)                                            \
+    (WCET_TELLS(type, result) &&                                                      \
+     (WCET_ALIKE(type, result(int)) || WCET_ALIKE(type, result(unsigned)) ||          \
+      WCET_ALIKE(type, result(long)) || WCET_ALIKE(type, result(unsigned long)) ||    \
+      WCET_ALIKE(type, result(void *)) || WCET_ALIKE(type, result(const void *)) ||   \
+      (WCET_ALIKE(type, result(__typeof__(argument))) && WCET_IS_WORD(__typeof__((argument) + 0)))))
+#define WCET_IS_WORD(type) (sizeof(type) <= 4 && !WCET_ALIKE(type, float))
+
+/* 16 bytes of the stack are the callee's, for its arguments. All registers that a callee may change are told to the
+ * compiler. */
+#define WCET_CALL_(n, count, function, word, ...)                                     \
+    _Static_assert(WCET_IS_WORD(wcet_result), "WCET_CALL: the result is more than one word"); \
+    WCET_JOIN(WCET_SAME_, count)(__VA_ARGS__)                                         \
+    long wcet_f = (long)(function), wcet_a = word;                                    \
+    register long wcet_25 __asm__("$25") = wcet_f;                                    \
+    register long wcet_4 __asm__("$4") = wcet_a;                                      \
+    register long wcet_2 __asm__("$2");                                               \
+    __asm__ volatile(WCET_KEPT("addiu $29, $29, -16\n\t" WCET_LABEL(n)                \
+                               "jalr $25\n\tnop\n\t"                                  \
+                               "addiu $29, $29, 16\n\t")                              \
+                     WCET_JOIN(WCET_GOES_, count)(n)                                  \
+                     : "=r"(wcet_2), "+r"(wcet_25), "+r"(wcet_4)                      \
+                     : WCET_JOIN(WCET_EACH_, count)(__VA_ARGS__)                      \
+                     : "$1", "$3", "$5", "$6", "$7", "$8", "$9", "$10", "$11", "$12", "$13", \
+                       "$14", "$15", "$24", "$31", "hi", "lo", "memory");             \
+    (wcet_result)wcet_2
+
+/* How many targets there are; a look at the type, a record and the operand of each. */
 #define WCET_JOIN_(front, back) front##back
 #define WCET_JOIN(front, back) WCET_JOIN_(front, back)
 #define WCET_EIGHTH(a, b, c, d, e, f, g, h, count, ...) count
 #define WCET_COUNT(...) WCET_EIGHTH(__VA_ARGS__, 8, 7, 6, 5, 4, 3, 2, 1, 0)
+#define WCET_SAME_1(a) \
+    _Static_assert(WCET_ALIKE(__typeof__(*(a)), wcet_type), "WCET_CALL: a target has another type than the function");
+#define WCET_SAME_2(a, ...) WCET_SAME_1(a) WCET_SAME_1(__VA_ARGS__)
+#define WCET_SAME_3(a, ...) WCET_SAME_1(a) WCET_SAME_2(__VA_ARGS__)
+#define WCET_SAME_4(a, ...) WCET_SAME_1(a) WCET_SAME_3(__VA_ARGS__)
+#define WCET_SAME_5(a, ...) WCET_SAME_1(a) WCET_SAME_4(__VA_ARGS__)
+#define WCET_SAME_6(a, ...) WCET_SAME_1(a) WCET_SAME_5(__VA_ARGS__)
+#define WCET_SAME_7(a, ...) WCET_SAME_1(a) WCET_SAME_6(__VA_ARGS__)
+#define WCET_SAME_8(a, ...) WCET_SAME_1(a) WCET_SAME_7(__VA_ARGS__)
 #define WCET_GOES_1(n) WCET_RECORD(n, "2", "%[wcet_t1]", "0")
 #define WCET_GOES_2(n) WCET_GOES_1(n) WCET_RECORD(n, "2", "%[wcet_t2]", "0")
 #define WCET_GOES_3(n) WCET_GOES_2(n) WCET_RECORD(n, "2", "%[wcet_t3]", "0")

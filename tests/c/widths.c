@@ -1,4 +1,5 @@
-/* Loads and stores of each width, and calls with one target and with eight. It returns how many of them are wrong. */
+/* Loads and stores of each width, and calls with one target and with eight, with and without an argument, of each width. It
+ * returns how many of them are wrong. */
 #include "wcet.h"
 
 static signed char tiny[4];
@@ -55,7 +56,45 @@ static int calls(int from)
     return wrong(sum, from + 37);
 }
 
+/* Functions that take nothing, that give nothing, and that take and give less than a word or an address. */
+static int counted;
+
+static void count(void)
+{
+    counted++;
+}
+
+static int count_twice(void)
+{
+    counted += 2;
+    return counted;
+}
+
+static signed char half(signed char value)
+{
+    return value / 2;
+}
+
+static const short *next(const short *place)
+{
+    return place + 1;
+}
+
+static void (*const counts[])(void) = {count};
+static int (*const double_counts[])(void) = {count_twice};
+static signed char (*const halves_of[])(signed char) = {half};
+static const short *(*const nexts[])(const short *) = {next};
+
+static int others(int value)
+{
+    const short *first = halves;
+    WCET_CALL0(counts[0], count);
+    return wrong(WCET_CALL0(double_counts[0], count_twice), 3) +
+           wrong(WCET_CALL(halves_of[0], (signed char)value, half), -28) +
+           wrong(WCET_CALL(nexts[0], first, next) == halves + 1, 1);
+}
+
 int task(void)
 {
-    return accesses(3) + calls(5);
+    return accesses(3) + calls(5) + others(200);
 }
