@@ -5,10 +5,6 @@
 set -eu
 program=${1:?the built decode_words}
 forms=$(dirname "$0")/assembler.txt
-if ! [ -x "$program" ]; then
-    echo "failed: decode_words isn't built: there is no program $program; rt run in crates/decode_words builds it"
-    exit 1
-fi
 work=$(mktemp -d)
 trap 'rm -rf "$work"' EXIT
 
@@ -29,6 +25,11 @@ elif command -v llvm-mc >/dev/null; then
 else
     echo 'skipped: no assembler for MIPS'
     exit 0
+fi
+
+if ! [ -x "$program" ]; then
+    echo "failed: decode_words isn't built: there is no program $program; rt run in crates/decode_words builds it"
+    exit 1
 fi
 
 # One word a line; the assembler may pad the end with zeros.
