@@ -1,0 +1,4 @@
+-- Lists of items, and the rings of links that stand for them.
+pub mod Lists
+pub mod Rings
+pub mod Tables

@@ -1,0 +1,7 @@
+//! Lists of items by number, kept by links: each item stands in at most one of them.
+#![tactic(auto)]
+
+mod rings;
+mod table;
+
+pub use table::LinkTable;
