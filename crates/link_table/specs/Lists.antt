@@ -1,7 +1,7 @@
 -- Lists of items by number.
 use Rattle.std.specs.Prelude.{ℕ, ◌==◌, ◌||◌, Bool, false, if◌then◌else◌, List, [], ◌∷◌, Contains, slice_index_or, slice_set}
 
--- How many items there are, numbered from 0, and the lists in order. Each item stands in at most one list, and there once.
+-- How many items there are, numbered from 0, and the lists in order.
 pub record Lists : Type 0 where
   pub items : ℕ
   pub lists : List (List ℕ)

@@ -1,5 +1,6 @@
--- The links behind the lists. Each item is a node, and behind the items stands one more node for each list, its end. The
--- nodes of a list are a ring: the end, the items in order, and the end again. An item of no list is a ring of its own.
+-- The links behind the lists. Each item is a node, and behind the items stands one more node for each list, its end.
+-- The nodes of a list are a ring: the end, the items in order, and the end again. An item of no list is a ring of its
+-- own.
 use Rattle.std.specs.Prelude.{◌≡◌, ℕ, zero, suc, ◌+◌, ◌-◌, ◌<◌, ◌==◌, ◌||◌, nat_lt, Bool, true, false, List, [], ◌∷◌, length, map, slice_index, slice_index_or, Option, Some, None}
 use Rattle.std.specs.List.{range_with_len}
 use Rattle.link_table.specs.declared.table.LinkTable.TheInside.{Inside}
@@ -28,7 +29,8 @@ follow true node rest = node ∷ rest
 abbrev pub following : (next : List ℕ) (items most from : ℕ) → List ℕ
 following next items zero from = []
 following next items (suc most) from =
-    follow (nat_lt (slice_index next from) items) (slice_index next from) (following next items most (slice_index next from))
+    follow (nat_lt (slice_index next from) items) (slice_index next from)
+    (following next items most (slice_index next from))
 
 -- The lists for which the links stand.
 abbrev pub lists_of : (next : List ℕ) (items : ℕ) → List (List ℕ)
@@ -38,7 +40,8 @@ lists_of next items = map (following next items items) (range_with_len items (le
 pub record StandsFor (items : ℕ) (next : List ℕ) (owners : List (Option ℕ)) (lists : List (List ℕ)) : Type 0 where
   pub nodes : length next ≡ items + length lists
   pub owned : length owners ≡ items
-  pub leads : (list : ℕ) → list < length lists → Leads next items (items + list) (slice_index_or lists list []) (items + list)
+  pub leads : (list : ℕ) → list < length lists →
+      Leads next items (items + list) (slice_index_or lists list []) (items + list)
   pub apart : (list : ℕ) → AreApart (slice_index_or lists list [])
   pub owner : (list item : ℕ) → is_in (slice_index_or lists list []) item ≡ true →
       slice_index_or owners item None ≡ Some list

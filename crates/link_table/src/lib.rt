@@ -3,5 +3,7 @@
 
 mod rings;
 mod table;
+#[cfg(test)]
+mod tests;
 
 pub use table::LinkTable;
