@@ -1,13 +1,13 @@
 -- What each call makes of the lists.
-use Rattle.std.proofs.Common.{◌≡◌, ◌≢◌, ℕ, zero, suc, ◌+◌, ◌-◌, ◌<◌, ◌≤◌, ◌⊎◌, Bool, true, false, List, [], ◌∷◌, ◌++◌, length, map, get_or, set, drop, slice_get, replicate, Contains, Option, Some, None, IfSome, IfNone, refl, sym, ◌∙◌, ap, subst, inl, inr, arith, length-set, get_or-set_same}
+use Rattle.std.proofs.Common.{◌≡◌, ℕ, zero, ◌+◌, ◌-◌, ◌<◌, ◌≤◌, ◌⊎◌, true, false, List, [], ◌∷◌, ◌++◌, length, get_or, set, drop, slice_get, replicate, Contains, Option, Some, None, IfSome, IfNone, refl, sym, ◌∙◌, ap, inl, inr, arith, get_or-set_same}
 use Rattle.std.specs.List.{range_with_len}
-use Rattle.std.proofs.lemmas.Bool.{cases_eq, cases_lt, cases_Bool, both_ways, false_from_ne_true}
+use Rattle.std.proofs.lemmas.Bool.{cases_lt, both_ways}
 use Rattle.std.proofs.lemmas.List.{get_or_past, set-set, set-get_or}
 use Rattle.std.proofs.lemmas.Option.{none-some, same_Some}
 use Rattle.link_table.specs.Rings.{IsInserted, IsRemoved}
-use Rattle.link_table.specs.Lists.{Lists, IsFree, Stands, items_of, with_list, without}
-use Rattle.link_table.specs.Tables.{is_in, AreApart, Leads, lists_of, StandsFor}
-use Rattle.link_table.proofs.Members.{is_in-from_Contains, Contains-from_is_in, not_Contains, is_in-same, without-same}
+use Rattle.link_table.specs.Lists.{Lists, IsFree, items_of, with_list, without}
+use Rattle.link_table.specs.Tables.{is_in, lists_of, StandsFor}
+use Rattle.link_table.proofs.Members.{is_in-from_Contains, Contains-from_is_in, not_Contains, without-same}
 use Rattle.link_table.proofs.Leading.{cons-nil, leads-within, leads-first, leads-none, leads-last}
 use Rattle.link_table.proofs.Standing.{lists-stood_for, stood_for, stands-new, stands-front, stands-back, stands-taken, free-taken}
 

@@ -1,10 +1,10 @@
 -- Links that lead from node to node, before and after a node is put in or taken out.
-use Rattle.std.proofs.Common.{◌≡◌, ◌≢◌, ℕ, zero, suc, ◌+◌, ◌-◌, ◌<◌, ◌≤◌, ◌⊎◌, Bool, true, false, List, [], ◌∷◌, ◌++◌, length, get_or, slice_get, drop, Option, Some, None, refl, sym, ◌∙◌, ap, subst, inl, inr, arith}
+use Rattle.std.proofs.Common.{◌≡◌, ◌≢◌, ℕ, zero, suc, ◌-◌, ◌<◌, ◌≤◌, ◌⊎◌, true, false, List, [], ◌∷◌, ◌++◌, length, get_or, slice_get, drop, Some, refl, sym, ◌∙◌, ap, subst, inl, inr, arith}
 use Rattle.std.proofs.lemmas.Bool.{cases_eq, both_ways, lt-ltb, le-ltb}
 use Rattle.std.proofs.lemmas.Option.{none-some}
 use Rattle.link_table.specs.Rings.{IsInserted, IsRemoved}
 use Rattle.link_table.specs.Lists.{without}
-use Rattle.link_table.specs.Tables.{is_in, AreApart, Leads, follow, following}
+use Rattle.link_table.specs.Tables.{is_in, AreApart, Leads, following}
 use Rattle.link_table.proofs.Members.{is_in-same, is_in-later, is_in-cases, not_first, not_later, differs, without-same, without-other}
 
 pub cons-nil : (x : ℕ) (xs : List ℕ) → x ∷ xs ≡ [] → ⊥

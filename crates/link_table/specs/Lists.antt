@@ -1,5 +1,5 @@
 -- Lists of items by number.
-use Rattle.std.specs.Prelude.{ℕ, ◌==◌, ◌||◌, Bool, false, if◌then◌else◌, List, [], ◌∷◌, Contains, slice_index_or, slice_set}
+use Rattle.std.specs.Prelude.{ℕ, ◌==◌, if◌then◌else◌, List, [], ◌∷◌, Contains, slice_index_or, slice_set}
 
 -- How many items there are, numbered from 0, and the lists in order.
 pub record Lists : Type 0 where

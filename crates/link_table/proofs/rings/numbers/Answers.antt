@@ -1,5 +1,5 @@
 -- One number more.
-use Rattle.std.proofs.Common.{◌∙◌, ap, add-one, arith, zero-add}
+use Rattle.std.proofs.Common.{add-one, arith}
 use Rattle.link_table.proofs.Ringing.{range-more}
 use Rattle.link_table.proofs.rings.numbers.Goals as goal
 

@@ -1,5 +1,5 @@
 -- Rings stay rings where a node is put in.
-use Rattle.std.proofs.Common.{◌≡◌, ◌<◌, ◌∙◌, length, get_or, ap, sym, arith}
+use Rattle.std.proofs.Common.{◌≡◌, ◌<◌, ◌∙◌, length, get_or, ap, sym}
 use Rattle.std.proofs.lemmas.List.{get_or_read}
 use Rattle.link_table.proofs.Ringing.{inserted, one_before, writes-insert}
 use Rattle.link_table.proofs.rings.Rings.insert.Goals as goal

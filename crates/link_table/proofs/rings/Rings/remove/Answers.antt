@@ -1,5 +1,5 @@
 -- Rings stay rings where a node is taken out.
-use Rattle.std.proofs.Common.{◌≡◌, ◌<◌, ◌∙◌, length, get_or, ap, sym, arith}
+use Rattle.std.proofs.Common.{◌≡◌, ◌<◌, ◌∙◌, length, get_or, ap, sym}
 use Rattle.std.proofs.lemmas.List.{get_or_read}
 use Rattle.link_table.proofs.Ringing.{removed, one_before, one_behind, writes-remove}
 use Rattle.link_table.proofs.rings.Rings.remove.Goals as goal

@@ -1,5 +1,4 @@
 -- The node behind the end is the first item.
-use Rattle.std.proofs.Common.{◌≡◌, ◌<◌}
 use Rattle.link_table.proofs.Calls.{first-some, first-none}
 use Rattle.link_table.proofs.table.LinkTable.first.Goals as goal
 

@@ -1,5 +1,4 @@
 -- The node before the end is the last item.
-use Rattle.std.proofs.Common.{◌≡◌, ◌<◌}
 use Rattle.link_table.proofs.Calls.{last-some, last-none}
 use Rattle.link_table.proofs.table.LinkTable.last.Goals as goal
 

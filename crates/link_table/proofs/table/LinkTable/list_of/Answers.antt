@@ -1,5 +1,5 @@
 -- The owner is the list in which the item stands.
-use Rattle.std.proofs.Common.{◌≡◌, ◌<◌, length, get_or, None}
+use Rattle.std.proofs.Common.{◌<◌, length, None}
 use Rattle.std.proofs.lemmas.List.{get_or_read}
 use Rattle.link_table.proofs.Calls.{owner-stands, owner-only, owner-free}
 use Rattle.link_table.proofs.table.LinkTable.list_of.Goals as goal

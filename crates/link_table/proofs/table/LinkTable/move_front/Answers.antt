@@ -1,5 +1,5 @@
 -- An item at the front already, or taken out and put there.
-use Rattle.std.proofs.Common.{◌≡◌, ◌∷◌, ℕ, Bool, true, false, eqb, Option, Some, None, Contains, slice_get, ap, sym, subst, ◌∙◌}
+use Rattle.std.proofs.Common.{◌≡◌, ◌∷◌, ℕ, true, eqb, Option, Some, None, slice_get, ap, sym, ◌∙◌}
 use Rattle.std.specs.Option.{option_eq}
 use Rattle.std.proofs.lemmas.Bool.{true≢false, eqb-true}
 use Rattle.link_table.specs.Lists.{items_of, with_list, without}

@@ -1,6 +1,6 @@
 -- An item behind all others.
-use Rattle.std.proofs.Common.{◌≡◌, ◌<◌, ◌+◌, ℕ, length, get_or, ap, ◌∙◌, arith}
-use Rattle.link_table.proofs.Calls.{Sees, free-alone, sees-back}
+use Rattle.std.proofs.Common.{◌≡◌, ◌<◌, ◌+◌, get_or, ap, ◌∙◌, arith}
+use Rattle.link_table.proofs.Calls.{free-alone, sees-back}
 use Rattle.link_table.proofs.table.LinkTable.push_back.Goals as goal
 
 pub insert-requires-clause-apart : goal.insert-requires-clause-apart

@@ -1,8 +1,5 @@
 -- An item before all others.
-use Rattle.std.proofs.Common.{◌≡◌, ◌<◌, List, ℕ, length, ap, arith}
-use Rattle.link_table.specs.Lists.{Lists}
-use Rattle.link_table.specs.Tables.{lists_of}
-use Rattle.link_table.proofs.Calls.{Sees, free-alone, sees-front}
+use Rattle.link_table.proofs.Calls.{free-alone, sees-front}
 use Rattle.link_table.proofs.table.LinkTable.push_front.Goals as goal
 
 pub insert-requires-clause-alone : goal.insert-requires-clause-alone

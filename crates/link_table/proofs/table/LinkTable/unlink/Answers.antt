@@ -1,7 +1,5 @@
 -- The lists without an item.
-use Rattle.std.proofs.Common.{◌≡◌, ◌<◌, Contains}
-use Rattle.link_table.specs.Lists.{items_of, Stands}
-use Rattle.link_table.proofs.Calls.{Sees, seen, sees-taken, sees-free}
+use Rattle.link_table.proofs.Calls.{sees-taken, sees-free}
 use Rattle.link_table.proofs.Members.{is_in-from_Contains}
 use Rattle.link_table.proofs.table.LinkTable.unlink.Goals as goal
 
