@@ -5,8 +5,9 @@ use Rattle.std.proofs.lemmas.Bool.{cases_lt, both_ways}
 use Rattle.std.proofs.lemmas.List.{get_or_past, set-set, set-get_or}
 use Rattle.std.proofs.lemmas.Option.{none-some, same_Some}
 use Rattle.link_table.specs.Rings.{IsInserted, IsRemoved}
-use Rattle.link_table.specs.Lists.{Lists, IsFree, items_of, with_list, without}
-use Rattle.link_table.specs.Tables.{is_in, lists_of, StandsFor}
+use Rattle.link_table.specs.Items.{without, is_in}
+use Rattle.link_table.specs.Lists.{Lists, IsFree, items_of, with_list}
+use Rattle.link_table.specs.Tables.{lists_of, StandsFor}
 use Rattle.link_table.proofs.Members.{is_in-from_Contains, Contains-from_is_in, not_Contains, without-same}
 use Rattle.link_table.proofs.Leading.{cons-nil, leads-within, leads-first, leads-none, leads-last}
 use Rattle.link_table.proofs.Standing.{lists-stood_for, stood_for, stands-new, stands-front, stands-back, stands-taken, free-taken}

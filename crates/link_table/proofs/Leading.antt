@@ -3,8 +3,8 @@ use Rattle.std.proofs.Common.{◌≡◌, ◌≢◌, ℕ, zero, suc, ◌-◌, ◌
 use Rattle.std.proofs.lemmas.Bool.{cases_eq, both_ways, lt-ltb, le-ltb}
 use Rattle.std.proofs.lemmas.Option.{none-some}
 use Rattle.link_table.specs.Rings.{IsInserted, IsRemoved}
-use Rattle.link_table.specs.Lists.{without}
-use Rattle.link_table.specs.Tables.{is_in, AreApart, Leads, following}
+use Rattle.link_table.specs.Items.{without, is_in, AreApart}
+use Rattle.link_table.specs.Tables.{Leads, following}
 use Rattle.link_table.proofs.Members.{is_in-same, is_in-later, is_in-cases, not_first, not_later, differs, without-same, without-other}
 
 pub cons-nil : (x : ℕ) (xs : List ℕ) → x ∷ xs ≡ [] → ⊥

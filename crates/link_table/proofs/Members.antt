@@ -1,30 +1,29 @@
 -- Which items stand in a list, and lists in which no item stands twice.
-use Rattle.std.proofs.Common.{◌≡◌, ◌≢◌, ℕ, zero, suc, ◌<◌, ◌≤◌, ◌⊎◌, ◌==◌, ◌||◌, true, false, eqb, List, [], ◌∷◌, ◌++◌, length, get_or, Contains, refl, sym, ◌∙◌, ap, inl, inr, arith}
+use Rattle.std.proofs.Common.{◌≡◌, ◌≢◌, ℕ, zero, suc, ◌<◌, ◌≤◌, ◌⊎◌, ◌==◌, ◌||◌, true, false, eqb, List, [], ◌∷◌, ◌++◌, length, get_or, Contains, refl, sym, ◌∙◌, ap, ap₂, inl, inr, arith}
 use Rattle.std.specs.List.{IsDistinct, list_any}
 use Rattle.std.specs.List.{AllByRecursion}
 use Rattle.std.proofs.lemmas.Bool.{cases_eq, cases_Bool, both_ways, eq-eqb, ne_eqb, eqb-true, or_cases, or_right, or_parts}
 use Rattle.std.proofs.lemmas.Map.Steps.{length-le_from_distinct_below}
-use Rattle.link_table.specs.Lists.{without}
-use Rattle.link_table.specs.Tables.{is_in, AreApart}
+use Rattle.link_table.specs.Items.{without, is_in, AreApart}
 
 pub is_in-same : (x item : ℕ) (xs : List ℕ) → item ≡ x → is_in (x ∷ xs) item ≡ true
-is_in-same x item xs e = rw (eq-eqb item x e) refl
+is_in-same x item xs e = rw (eq-eqb x item (sym e)) refl
 
 pub is_in-other : (x item : ℕ) (xs : List ℕ) → item ≢ x → is_in (x ∷ xs) item ≡ is_in xs item
-is_in-other x item xs differ = rw (ne_eqb item x differ) refl
+is_in-other x item xs differ = rw (ne_eqb x item (λ e. differ (sym e))) refl
 
 pub is_in-later : (x item : ℕ) (xs : List ℕ) → is_in xs item ≡ true → is_in (x ∷ xs) item ≡ true
-is_in-later x item xs h = or_right (item == x) (is_in xs item) h
+is_in-later x item xs h = or_right (x == item) (is_in xs item) h
 
 pub is_in-cases : (x item : ℕ) (xs : List ℕ) → is_in (x ∷ xs) item ≡ true → (item ≡ x) ⊎ (is_in xs item ≡ true)
-is_in-cases x item xs h = elim (or_cases (item == x) (is_in xs item) h) [ inl e ↦ inl (eqb-true item x e) | inr k ↦ inr k ]
+is_in-cases x item xs h = elim (or_cases (x == item) (is_in xs item) h) [ inl e ↦ inl (sym (eqb-true x item e)) | inr k ↦ inr k ]
 
 -- An item that doesn't stand in a list is not the first one, nor among the others.
 pub not_first : (x item : ℕ) (xs : List ℕ) → is_in (x ∷ xs) item ≡ false → item ≢ x
 not_first x item xs h e = both_ways (is_in (x ∷ xs) item) h (is_in-same x item xs e)
 
 pub not_later : (x item : ℕ) (xs : List ℕ) → is_in (x ∷ xs) item ≡ false → is_in xs item ≡ false
-not_later x item xs h = (or_parts (item == x) (is_in xs item) h).1
+not_later x item xs h = (or_parts (x == item) (is_in xs item) h).1
 
 pub differs : (xs : List ℕ) (item other : ℕ) → is_in xs item ≡ false → is_in xs other ≡ true → other ≢ item
 differs xs item other h k e = both_ways (is_in xs item) h (ap (λ n. is_in xs n) (sym e) ∙ k)
@@ -145,9 +144,15 @@ unfolding IsDistinct
 distinct [] apart = tt
 distinct (x ∷ xs) apart = (unequal x xs apart.0, distinct xs apart.1)
 
+eqb-turned : (a b : ℕ) → eqb a b ≡ eqb b a
+eqb-turned a b = elim (cases_eq a b) [
+  | inl e ↦ eq-eqb a b e ∙ sym (eq-eqb b a (sym e))
+  | inr differ ↦ ne_eqb a b differ ∙ sym (ne_eqb b a (λ e. differ (sym e)))
+]
+
 any-is_in : (xs : List ℕ) (item : ℕ) → list_any (eqb item) xs ≡ is_in xs item
 any-is_in [] item = refl
-any-is_in (x ∷ xs) item = ap (λ b. eqb item x || b) (any-is_in xs item)
+any-is_in (x ∷ xs) item = ap₂ (λ a b. a || b) (eqb-turned item x) (any-is_in xs item)
 
 pub length-AreApart : (xs : List ℕ) (most : ℕ) → AreApart xs → ((item : ℕ) → is_in xs item ≡ true → item < most) → length xs ≤ most
 length-AreApart xs most apart below =

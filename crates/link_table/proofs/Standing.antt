@@ -6,8 +6,8 @@ use Rattle.std.proofs.lemmas.List.{length-replicate, same_lists, get_or_default}
 use Rattle.std.proofs.lemmas.List.FromFn.{length-range_with_len, get_or-range_with_len, length-map-range_with_len, get_or-map-range_with_len}
 use Rattle.std.proofs.lemmas.Option.{none-some, same_Some}
 use Rattle.link_table.specs.Rings.{IsInserted, IsRemoved}
-use Rattle.link_table.specs.Lists.{without}
-use Rattle.link_table.specs.Tables.{is_in, AreApart, Leads, following, lists_of, StandsFor}
+use Rattle.link_table.specs.Items.{without, is_in, AreApart}
+use Rattle.link_table.specs.Tables.{Leads, following, lists_of, StandsFor}
 use Rattle.link_table.proofs.Members.{is_in-same, is_in-later, is_in-cases, is_in-push, is_in-pushed, is_in-last, AreApart-push, is_in-without, is_in-left, is_in-gone, AreApart-without, length-AreApart}
 use Rattle.link_table.proofs.Leading.{following-leads, leads-within, leads-onward, leads-kept, leads-insert, leads-push, leads-apart, leads-remove}
 

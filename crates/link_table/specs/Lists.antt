@@ -21,8 +21,3 @@ IsFree table item = (list : ℕ) → Contains (items_of table list) item → ⊥
 -- The item stands in some list.
 abbrev pub Stands : Lists → (item : ℕ) → Type 0
 Stands table item = (list : ℕ) × Contains (items_of table list) item
-
--- Items without the first one of this number.
-abbrev pub without : List ℕ → (item : ℕ) → List ℕ
-without [] item = []
-without (x ∷ xs) item = if x == item then xs else x ∷ without xs item

@@ -4,17 +4,8 @@
 use Rattle.std.specs.Prelude.{◌≡◌, ℕ, zero, suc, ◌+◌, ◌-◌, ◌<◌, ◌==◌, ◌||◌, nat_lt, Bool, true, false, List, [], ◌∷◌, length, map, slice_index, slice_index_or, Option, Some, None}
 use Rattle.std.specs.List.{range_with_len}
 use Rattle.link_table.specs.declared.table.LinkTable.TheInside.{Inside}
+use Rattle.link_table.specs.Items.{is_in, AreApart}
 use Rattle.link_table.specs.Lists.{Lists}
-
--- Whether an item stands among others.
-abbrev pub is_in : List ℕ → (item : ℕ) → Bool
-is_in [] item = false
-is_in (x ∷ xs) item = (item == x) || is_in xs item
-
--- No item stands twice.
-abbrev pub AreApart : List ℕ → Type 0
-AreApart [] = Unit {0}
-AreApart (x ∷ xs) = (is_in xs x ≡ false) × AreApart xs
 
 -- The links lead from a node over these items to another node.
 abbrev pub Leads : (next : List ℕ) (items from : ℕ) → List ℕ → (to : ℕ) → Type 0

@@ -1,6 +1,7 @@
 //! The table of links, and its calls.
 ghost use Rattle.std.specs.Prelude.{◌≡◌, ◌<◌, ◌+◌, ◌++◌, ◌∷◌, ◌^◌, ℕ, ◌-◌, [], Contains, Option, drop, length, replicate, slice_get, IfOk, IfSome, IfNone};
-ghost use Rattle.link_table.specs.Lists.{IsFree, Stands, items_of, with_list, without};
+ghost use Rattle.link_table.specs.Items.{without};
+ghost use Rattle.link_table.specs.Lists.{IsFree, Stands, items_of, with_list};
 
 use crate::rings::Rings;
 use std::alloc::{AllocError, Global};

@@ -2,7 +2,8 @@
 use Rattle.std.proofs.Common.{◌≡◌, ◌∷◌, ℕ, true, eqb, Option, Some, None, slice_get, ap, sym, ◌∙◌}
 use Rattle.std.specs.Option.{option_eq}
 use Rattle.std.proofs.lemmas.Bool.{true≢false, eqb-true}
-use Rattle.link_table.specs.Lists.{items_of, with_list, without}
+use Rattle.link_table.specs.Items.{without}
+use Rattle.link_table.specs.Lists.{items_of, with_list}
 use Rattle.link_table.proofs.Calls.{first-moved, moved}
 use Rattle.link_table.proofs.table.LinkTable.move_front.Goals as goal
 
