@@ -3,3 +3,4 @@ pub mod Moving
 pub mod Ordering
 pub mod Slotted
 pub mod Touching
+pub mod Walking

@@ -1,12 +1,13 @@
 -- The caches of a machine, and what an access does to them (Hardy and Puaut 2008: caches that don't include one another).
-use Rattle.std.specs.Prelude.{ℕ, zero, suc, ◌+◌, Bool, true, false, List, [], ◌∷◌, filter, map, sum_by, take, if◌then◌else◌}
+use Rattle.std.specs.Prelude.{◌≡◌, ℕ, zero, suc, ◌+◌, Bool, true, false, List, [], ◌∷◌, filter, map, sum_by, take, if◌then◌else◌}
+use Rattle.std.specs.List.{AllZip}
 use Rattle.lru_concrete.specs.declared.level.Level.{Level}
 use Rattle.lru_concrete.specs.declared.level.Serves.{Serves}
 use Rattle.lru_concrete.specs.declared.level.Serves.TheVariants as serving
 use Rattle.lru_concrete.specs.declared.level.Side.{Side}
 use Rattle.lru_concrete.specs.declared.level.Side.TheVariants as side
 use Rattle.lru_concrete.specs.declared.visit.Visit.{Visit}
-use Rattle.lru_concrete.specs.Contents.{block_in, holds, touching}
+use Rattle.lru_concrete.specs.Contents.{Content, block_in, holds, touching}
 
 -- Whether a cache serves the fetches, or the loads.
 abbrev pub serves : Serves → Side → Bool
@@ -23,6 +24,18 @@ pub record Held : Type 0 where
 
 abbrev pub levels_of : List Held → List Level
 levels_of caches = map (λ (cache : Held). cache.level) caches
+
+-- Caches of these levels, with these contents.
+abbrev pub held_of : List Level → List Content → List Held
+held_of [] contents = []
+held_of (level ∷ levels) [] = []
+held_of (level ∷ levels) (content ∷ contents) =
+    record { level = level; blocks = content.blocks } ∷ held_of levels contents
+
+-- Each content is of the size that its level has.
+abbrev pub AreOfLevels : List Level → List Content → Type 0
+AreOfLevels levels contents =
+    AllZip (λ (level : Level) (content : Content). content.shape ≡ level.shape) levels contents
 
 -- Whether a cache holds the block of an address, and the cache once that block is touched.
 abbrev pub finds_in : Held → (address : ℕ) → Bool
@@ -73,11 +86,19 @@ before side (level ∷ more) (suc n) = one_more (serves level.serves side) (befo
 abbrev pub chain : Side → List Level → List Level
 chain side levels = filter (λ (level : Level). serves level.serves side) levels
 
+abbrev pub latencies : List Level → ℕ
+latencies levels = sum_by (λ (level : Level). level.latency) levels
+
 -- The cycles of a visit: the latencies of the visited caches, and memory's where none of them held the block.
 abbrev pub cycles_of : Side → List Level → (memory : ℕ) → Visited → ℕ
 cycles_of side levels memory visit =
-    sum_by (λ (level : Level). level.latency) (take visit.caches (chain side levels)) + (if visit.hit then 0 else memory)
+    latencies (take visit.caches (chain side levels)) + (if visit.hit then 0 else memory)
 
 abbrev pub visit_of : Side → List Level → (memory : ℕ) → Visited → Visit
 visit_of side levels memory visit =
     record { caches = visit.caches; hit = visit.hit; cycles = cycles_of side levels memory visit }
+
+-- The caches of a machine, and the latency of memory behind them.
+pub record Hierarchy : Type 0 where
+  pub caches : List Held
+  pub memory : ℕ

@@ -4,3 +4,4 @@ pub mod Contents
 pub mod Limits
 pub mod Sets
 pub mod Slots
+pub mod Walks

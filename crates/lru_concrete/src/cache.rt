@@ -4,7 +4,7 @@ ghost use Rattle.std.specs.Prelude.{◌≡◌, [], replicate, IfOk};
 ghost use Rattle.lru_concrete.specs.Contents.{IsLawful, holds, touching};
 
 use crate::level::Shape;
-use crate::order::slots_in_order;
+use crate::order::{renew, slots_in_order};
 use crate::slots::{find, slots_holding};
 use link_table::LinkTable;
 use std::alloc::{AllocError, Global};
@@ -72,14 +72,14 @@ impl Cache {
         let set = block % self.shape.sets;
         let first = self.shape.first_slot(set);
         if let Some(slot) = find(&self.slots, first, first + self.shape.ways, block) {
-            self.order.move_front(slot);
+            renew(&mut self.order, slot);
             return true;
         }
-        let Some(slot) = self.order.last(set) else {
+        let Some(last) = self.order.last(set) else {
             return false;
         };
-        self.slots[slot as usize] = Some(block);
-        self.order.move_front(slot);
+        self.slots[last as usize] = Some(block);
+        renew(&mut self.order, last);
         false
     }
 }

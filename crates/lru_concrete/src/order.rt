@@ -1,8 +1,9 @@
 //! The slots of each set in a row: how a cache begins.
 
-ghost use Rattle.std.specs.Prelude.{◌≡◌, ℕ, ◌+◌, ◌<◌, ◌≤◌, ◌^◌, [], length, IfOk};
+ghost use Rattle.std.specs.Prelude.{◌≡◌, ℕ, ◌+◌, ◌<◌, ◌≤◌, ◌^◌, ◌∷◌, [], Contains, length, IfOk};
 ghost use Rattle.std.specs.List.{range_with_len};
-ghost use Rattle.link_table.specs.Lists.{IsFree, items_of, with_list};
+ghost use Rattle.link_table.specs.Items.{without};
+ghost use Rattle.link_table.specs.Lists.{IsFree, Stands, items_of, with_list};
 ghost use Rattle.lru_concrete.specs.Slots.{IsInOrder};
 
 use crate::level::Shape;
@@ -32,4 +33,14 @@ pub(crate) fn slots_in_order(alloc: Global, shape: Shape) -> Result<LinkTable, A
         fill_set(&mut order, set, shape.first_slot(set), shape.ways);
     }
     Ok(order)
+}
+
+/// Makes a slot the most recent one of its set.
+pub(crate) fn renew(order: &mut LinkTable, slot: u32)
+    requires slot { slot < order.old.items }
+    requires stands { Stands order.old slot }
+    ensures { (set : ℕ) → Contains (items_of order.old set) slot →
+        order.new ≡ with_list order.old set (slot ∷ without (items_of order.old set) slot) }
+{
+    order.move_front(slot);
 }

@@ -5,8 +5,8 @@ use Rattle.lru_concrete.specs.Contents.{IsLawful}
 use Rattle.lru_concrete.proofs.Moving.{IsTouched, hit-stands, hit-touched, hit-within, miss-stands, miss-within, miss-item, miss-touched, last-there, set-within}
 use Rattle.lru_concrete.proofs.cache.Cache.touch.Goals as goal
 
-pub move_front-requires-clause-stands : goal.move_front-requires-clause-stands
-move_front-requires-clause-stands c =
+pub renew-requires-clause-stands : goal.renew-requires-clause-stands
+renew-requires-clause-stands c =
     hit-stands c.self.inside.shape c.self.inside.order c.self.inside.slots.items c.deref.result.now c.self.invariant
     c.args.block c.in-Some.slot c.first_slot-first.result c.first_slot-first.ensures.first c.deref.ensures.value c.in-Some.ensures.within
     c.in-Some.ensures.found
@@ -15,25 +15,25 @@ pub invariant_of-self : goal.invariant_of-self
 invariant_of-self c =
     (hit-touched c.self.inside.shape c.self.inside.order c.self.inside.slots.items c.deref.result.now c.self.invariant
     c.args.block c.in-Some.slot c.first_slot-first.result c.first_slot-first.ensures.first c.deref.ensures.value c.in-Some.ensures.within
-    c.in-Some.ensures.found c.move_front.new.self c.move_front.ensures).keeps
+    c.in-Some.ensures.found c.renew.new.order c.renew.ensures).keeps
 
 pub returns-in-Some-clause-held : goal.returns-in-Some-clause-held
 returns-in-Some-clause-held c = rw (← c.self.view_is)
     (hit-touched c.self.inside.shape c.self.inside.order c.self.inside.slots.items c.deref.result.now c.self.invariant
     c.args.block c.in-Some.slot c.first_slot-first.result c.first_slot-first.ensures.first c.deref.ensures.value c.in-Some.ensures.within
-    c.in-Some.ensures.found c.move_front.new.self c.move_front.ensures).held
+    c.in-Some.ensures.found c.renew.new.order c.renew.ensures).held
 
 pub returns-in-Some-clause-blocks : goal.returns-in-Some-clause-blocks
 returns-in-Some-clause-blocks c = rw (← c.self.view_is)
     (hit-touched c.self.inside.shape c.self.inside.order c.self.inside.slots.items c.deref.result.now c.self.invariant
     c.args.block c.in-Some.slot c.first_slot-first.result c.first_slot-first.ensures.first c.deref.ensures.value c.in-Some.ensures.within
-    c.in-Some.ensures.found c.move_front.new.self c.move_front.ensures).content
+    c.in-Some.ensures.found c.renew.new.order c.renew.ensures).content
 
 pub returns-in-Some-clause-lawful : goal.returns-in-Some-clause-lawful
 returns-in-Some-clause-lawful c =
     (hit-touched c.self.inside.shape c.self.inside.order c.self.inside.slots.items c.deref.result.now c.self.invariant
     c.args.block c.in-Some.slot c.first_slot-first.result c.first_slot-first.ensures.first c.deref.ensures.value c.in-Some.ensures.within
-    c.in-Some.ensures.found c.move_front.new.self c.move_front.ensures).keeps.lawful
+    c.in-Some.ensures.found c.renew.new.order c.renew.ensures).keeps.lawful
 
 pub returns-in_default-last-clause-held : goal.returns-in_default-last-clause-held
 returns-in_default-last-clause-held c = absurd (last-there c.self.inside.shape c.self.inside.order c.self.inside.slots.items
@@ -45,43 +45,43 @@ returns-in_default-last-clause-blocks c = absurd (last-there c.self.inside.shape
 
 pub index_mut-requires : goal.index_mut-requires
 index_mut-requires c =
-    let within : c.in-Some-last.slot < length c.self.inside.slots.items = miss-within c.self.inside.shape c.self.inside.order c.self.inside.slots.items c.deref.result.now c.self.invariant
-    c.args.block c.in-Some-last.slot c.first_slot-first.result c.first_slot-first.ensures.first c.deref.ensures.value
+    let within : c.in-Some-last.last < length c.self.inside.slots.items = miss-within c.self.inside.shape c.self.inside.order c.self.inside.slots.items c.deref.result.now c.self.invariant
+    c.args.block c.in-Some-last.last c.first_slot-first.result c.first_slot-first.ensures.first c.deref.ensures.value
     c.in_default.ensures.none c.in-Some-last.ensures in
     search rules
 
-pub move_front-requires-2-clause-item : goal.move_front-requires-2-clause-item
-move_front-requires-2-clause-item c =
+pub renew-requires-2-clause-slot : goal.renew-requires-2-clause-slot
+renew-requires-2-clause-slot c =
     miss-item c.self.inside.shape c.self.inside.order c.self.inside.slots.items c.deref.result.now c.self.invariant
-    c.args.block c.in-Some-last.slot c.first_slot-first.result c.first_slot-first.ensures.first c.deref.ensures.value
+    c.args.block c.in-Some-last.last c.first_slot-first.result c.first_slot-first.ensures.first c.deref.ensures.value
     c.in_default.ensures.none c.in-Some-last.ensures
 
-pub move_front-requires-2-clause-stands : goal.move_front-requires-2-clause-stands
-move_front-requires-2-clause-stands c =
+pub renew-requires-2-clause-stands : goal.renew-requires-2-clause-stands
+renew-requires-2-clause-stands c =
     miss-stands c.self.inside.shape c.self.inside.order c.self.inside.slots.items c.deref.result.now c.self.invariant
-    c.args.block c.in-Some-last.slot c.first_slot-first.result c.first_slot-first.ensures.first c.deref.ensures.value
+    c.args.block c.in-Some-last.last c.first_slot-first.result c.first_slot-first.ensures.first c.deref.ensures.value
     c.in_default.ensures.none c.in-Some-last.ensures
 
 pub invariant_of-self-2 : goal.invariant_of-self-2
 invariant_of-self-2 c =
     (miss-touched c.self.inside.shape c.self.inside.order c.self.inside.slots.items c.deref.result.now c.self.invariant
-    c.args.block c.in-Some-last.slot c.first_slot-first.result c.first_slot-first.ensures.first c.deref.ensures.value
-    c.in_default.ensures.none c.in-Some-last.ensures c.move_front-2.new.self c.move_front-2.ensures).keeps
+    c.args.block c.in-Some-last.last c.first_slot-first.result c.first_slot-first.ensures.first c.deref.ensures.value
+    c.in_default.ensures.none c.in-Some-last.ensures c.renew-2.new.order c.renew-2.ensures).keeps
 
 pub returns-clause-held : goal.returns-clause-held
 returns-clause-held c = rw (← c.self.view_is)
     (miss-touched c.self.inside.shape c.self.inside.order c.self.inside.slots.items c.deref.result.now c.self.invariant
-    c.args.block c.in-Some-last.slot c.first_slot-first.result c.first_slot-first.ensures.first c.deref.ensures.value
-    c.in_default.ensures.none c.in-Some-last.ensures c.move_front-2.new.self c.move_front-2.ensures).held
+    c.args.block c.in-Some-last.last c.first_slot-first.result c.first_slot-first.ensures.first c.deref.ensures.value
+    c.in_default.ensures.none c.in-Some-last.ensures c.renew-2.new.order c.renew-2.ensures).held
 
 pub returns-clause-blocks : goal.returns-clause-blocks
 returns-clause-blocks c = rw (← c.self.view_is)
     (miss-touched c.self.inside.shape c.self.inside.order c.self.inside.slots.items c.deref.result.now c.self.invariant
-    c.args.block c.in-Some-last.slot c.first_slot-first.result c.first_slot-first.ensures.first c.deref.ensures.value
-    c.in_default.ensures.none c.in-Some-last.ensures c.move_front-2.new.self c.move_front-2.ensures).content
+    c.args.block c.in-Some-last.last c.first_slot-first.result c.first_slot-first.ensures.first c.deref.ensures.value
+    c.in_default.ensures.none c.in-Some-last.ensures c.renew-2.new.order c.renew-2.ensures).content
 
 pub returns-clause-lawful : goal.returns-clause-lawful
 returns-clause-lawful c =
     (miss-touched c.self.inside.shape c.self.inside.order c.self.inside.slots.items c.deref.result.now c.self.invariant
-    c.args.block c.in-Some-last.slot c.first_slot-first.result c.first_slot-first.ensures.first c.deref.ensures.value
-    c.in_default.ensures.none c.in-Some-last.ensures c.move_front-2.new.self c.move_front-2.ensures).keeps.lawful
+    c.args.block c.in-Some-last.last c.first_slot-first.result c.first_slot-first.ensures.first c.deref.ensures.value
+    c.in_default.ensures.none c.in-Some-last.ensures c.renew-2.new.order c.renew-2.ensures).keeps.lawful
