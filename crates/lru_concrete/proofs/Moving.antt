@@ -1,16 +1,16 @@
 -- A touch, by the slots of a set: one moves to the front, and takes the block if the set doesn't hold it.
-use Rattle.std.proofs.Common.{◌≡◌, ◌≢◌, ℕ, zero, suc, ◌+◌, ◌-◌, ◌*◌, ◌<◌, ◌≤◌, ◌%◌, ◌⊎◌, Bool, true, false, List, [], ◌∷◌, length, map, get_or, set, take, slice_get, Contains, Option, Some, None, refl, sym, ◌∙◌, ap, ap₂, subst, inl, inr, arith, length-set, get_or-set_same, get_or-set_other}
+use Rattle.std.proofs.Common.{◌≡◌, ◌≢◌, ℕ, zero, suc, ◌+◌, ◌-◌, ◌*◌, ◌<◌, ◌≤◌, Bool, true, false, List, [], ◌∷◌, length, map, get_or, set, take, slice_get, Contains, Option, Some, None, refl, sym, ◌∙◌, ap, ap₂, subst, inl, inr, arith, length-set, get_or-set_same, get_or-set_other}
 use Rattle.std.proofs.Math.Nat.{mul-le-mul_left}
-use Rattle.std.proofs.lemmas.Bool.{cases_eq, cases_lt, both_ways, false_from_ne_true}
-use Rattle.std.proofs.lemmas.List.{map-set, take_all}
+use Rattle.std.proofs.lemmas.Bool.{cases_eq, both_ways, false_from_ne_true}
+use Rattle.std.proofs.lemmas.List.{take_all}
 use Rattle.std.proofs.lemmas.Option.{slice_get-get_or, none-some}
 use Rattle.link_table.specs.Items.{is_in, AreApart, without}
 use Rattle.link_table.specs.Lists.{Lists, Stands, items_of, with_list}
 use Rattle.link_table.proofs.Members.{Contains-from_is_in, is_in-same, is_in-later, is_in-cases, differs, without-same, without-other, is_in-without, is_in-left, is_in-gone, AreApart-without}
 use Rattle.lru_concrete.specs.declared.level.Shape.{Shape}
 use Rattle.lru_concrete.specs.Sets.{touched}
-use Rattle.lru_concrete.specs.Contents.{Content, IsLawful, holds, set_in, set_of, touching}
-use Rattle.lru_concrete.specs.Slots.{block_at, blocks_at, ArePacked, AreWays, KeepsSets, content_of, sets_of}
+use Rattle.lru_concrete.specs.Contents.{holds, set_in, set_of, touching}
+use Rattle.lru_concrete.specs.Slots.{block_at, blocks_at, AreWays, KeepsSets, content_of, sets_of}
 use Rattle.lru_concrete.proofs.Slotted.{blocks-some, block-in, slot-of, blocks-kept, blocks-without, blocks-last, last-in, packed-some, packed-kept, packed-without}
 use Rattle.lru_concrete.proofs.Touching.{without-none, lawful-touching}
 use Rattle.lru_concrete.proofs.Ordering.{map-at, rows-apart}

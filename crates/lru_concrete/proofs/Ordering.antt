@@ -1,19 +1,18 @@
 -- The slots of the sets in order, and what stands in them at first.
-use Rattle.std.proofs.Common.{◌≡◌, ◌≢◌, ℕ, zero, suc, ◌+◌, ◌-◌, ◌*◌, ◌<◌, ◌≤◌, ◌⊎◌, Bool, true, false, List, [], ◌∷◌, ◌++◌, length, map, get_or, set, replicate, slice_get, Contains, Option, Some, None, refl, sym, ◌∙◌, ap, ap₂, subst, inl, inr, arith, length-set, length-append, get_or-set_same, get_or-set_other, add-one}
+use Rattle.std.proofs.Common.{◌≡◌, ◌≢◌, ℕ, zero, suc, ◌+◌, ◌-◌, ◌*◌, ◌<◌, ◌≤◌, false, List, [], ◌∷◌, ◌++◌, length, map, get_or, set, replicate, slice_get, Contains, Option, Some, None, refl, sym, ◌∙◌, ap, subst, inl, inr, arith, length-set, length-append, get_or-set_same, get_or-set_other, add-one}
 use Rattle.std.specs.List.{range_with_len, flat_map}
 use Rattle.std.proofs.Math.Nat.{mul-le-mul_left}
 use Rattle.std.proofs.lemmas.Bool.{cases_eq, cases_lt, cases_order, both_ways}
-use Rattle.std.proofs.lemmas.List.{same_lists, set-get_or, get_or_append_left, get_or-append-add, length-replicate, get_or_default, get_or_past}
+use Rattle.std.proofs.lemmas.List.{same_lists, set-get_or, get_or_append_left, get_or-append-add, length-replicate, get_or_default}
 use Rattle.std.proofs.lemmas.List.FromFn.{length-range_with_len, get_or-range_with_len, length-map-range_with_len, get_or-map-range_with_len}
-use Rattle.std.proofs.lemmas.Option.{slice_get-get_or, slice_get_past}
-use Rattle.link_table.specs.Items.{is_in, AreApart, without}
+use Rattle.link_table.specs.Items.{is_in, AreApart}
 use Rattle.link_table.specs.Lists.{Lists, IsFree, items_of, with_list}
 use Rattle.link_table.proofs.Calls.{with_list-twice, items_of-with_list}
 use Rattle.link_table.proofs.Members.{is_in-from_Contains, Contains-from_is_in, not_Contains}
 use Rattle.link_table.proofs.Ringing.{range-more}
 use Rattle.lru_concrete.specs.declared.level.Shape.{Shape}
-use Rattle.lru_concrete.specs.Contents.{Content, IsLawful}
-use Rattle.lru_concrete.specs.Slots.{block_at, blocks_at, AreEmpty, ArePacked, AreWays, IsInOrder, KeepsSets, content_of, sets_of, ways_of}
+use Rattle.lru_concrete.specs.Contents.{IsLawful}
+use Rattle.lru_concrete.specs.Slots.{block_at, blocks_at, AreEmpty, ArePacked, IsInOrder, KeepsSets, content_of, sets_of, ways_of}
 use Rattle.lru_concrete.proofs.Slotted.{blocks-some, blocks-none, packed-some, packed-none}
 
 -- ---- Numbers in a row.

@@ -1,11 +1,11 @@
 -- The blocks in slots, and how they change where a slot moves to the front or gets another block.
-use Rattle.std.proofs.Common.{◌≡◌, ◌≢◌, ℕ, zero, suc, ◌+◌, ◌-◌, ◌*◌, ◌<◌, ◌≤◌, ◌⊎◌, Bool, true, false, eqb, List, [], ◌∷◌, ◌++◌, length, get_or, set, take, filter_map, slice_get, Option, Some, None, refl, sym, ◌∙◌, ap, ap₂, subst, inl, inr, arith, get_or-set_same, get_or-set_other}
-use Rattle.std.specs.List.{range_with_len, cons_option}
-use Rattle.std.proofs.lemmas.Bool.{cases_eq, cases_Bool, both_ways}
+use Rattle.std.proofs.Common.{◌≡◌, ◌≢◌, ℕ, zero, suc, ◌-◌, ◌⊎◌, true, false, List, [], ◌∷◌, length, take, slice_get, Option, Some, None, refl, sym, ◌∙◌, ap, ap₂, subst, inl, inr, arith}
+use Rattle.std.specs.List.{cons_option}
+use Rattle.std.proofs.lemmas.Bool.{cases_eq, both_ways}
 use Rattle.std.proofs.lemmas.Option.{none-some, same_Some}
 use Rattle.link_table.specs.Items.{is_in, AreApart, without}
-use Rattle.link_table.proofs.Members.{is_in-same, is_in-later, is_in-cases, not_first, not_later, differs, without-same, without-other, is_in-gone}
-use Rattle.lru_concrete.specs.Slots.{block_at, blocks_at, AreEmpty, ArePacked, holds_front}
+use Rattle.link_table.proofs.Members.{is_in-same, is_in-later, is_in-cases, differs, without-same, without-other}
+use Rattle.lru_concrete.specs.Slots.{block_at, blocks_at, AreEmpty, ArePacked}
 
 pub blocks-some : (slots : List (Option ℕ)) (slot block : ℕ) (order : List ℕ) → block_at slots slot ≡ Some block →
     blocks_at slots (slot ∷ order) ≡ block ∷ blocks_at slots order

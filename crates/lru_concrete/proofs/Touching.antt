@@ -1,7 +1,7 @@
 -- A touch keeps the contents of a cache lawful.
-use Rattle.std.proofs.Common.{◌≡◌, ◌≢◌, ℕ, zero, suc, ◌+◌, ◌-◌, ◌*◌, ◌<◌, ◌≤◌, ◌%◌, ◌⊎◌, Bool, true, false, List, [], ◌∷◌, length, get_or, set, take, refl, sym, ◌∙◌, ap, subst, inl, inr, arith, length-set, get_or-set_same, get_or-set_other}
-use Rattle.std.proofs.lemmas.Bool.{cases_eq, cases_Bool, cases_lt, both_ways, false_from_ne_true}
-use Rattle.std.proofs.lemmas.List.{get_or_past, set_past, length-take}
+use Rattle.std.proofs.Common.{◌≡◌, ℕ, zero, suc, ◌≤◌, ◌⊎◌, true, false, List, [], ◌∷◌, length, get_or, take, refl, sym, ◌∙◌, ap, inl, inr, arith, length-set, get_or-set_same, get_or-set_other}
+use Rattle.std.proofs.lemmas.Bool.{cases_eq, cases_lt, both_ways, false_from_ne_true}
+use Rattle.std.proofs.lemmas.List.{set_past, length-take}
 use Rattle.link_table.specs.Items.{is_in, AreApart, without}
 use Rattle.link_table.proofs.Members.{is_in-same, is_in-later, is_in-cases, not_first, not_later, is_in-without, is_in-gone, without-other, AreApart-without}
 use Rattle.lru_concrete.specs.declared.level.Shape.{Shape}

@@ -1,16 +1,15 @@
 -- An access that goes through caches, cache by cache.
-use Rattle.std.proofs.Common.{◌≡◌, ◌≢◌, ℕ, zero, suc, ◌+◌, ◌-◌, ◌*◌, ◌<◌, ◌≤◌, ◌⊎◌, Bool, true, false, cond, List, [], ◌∷◌, ◌++◌, length, map, get_or, set, take, drop, filter, sum_by, refl, sym, ◌∙◌, ap, ap₂, subst, inl, inr, zero-add, add-one, arith, append_assoc}
-use Rattle.std.specs.List.{AllZip}
+use Rattle.std.proofs.Common.{◌≡◌, ℕ, zero, suc, ◌+◌, ◌*◌, ◌<◌, ◌≤◌, Bool, true, false, cond, List, [], ◌∷◌, ◌++◌, length, get_or, set, take, drop, refl, sym, ◌∙◌, ap, ap₂, zero-add, arith, append_assoc}
 use Rattle.std.proofs.lemmas.List.{drop_more, take_more, take_more_set, set_split, take_all, drop_all, drop-set-lt, append-nil, take_at, take-append-drop, length_push}
 use Rattle.std.proofs.lemmas.List.Sums.{sum_by-append, sum_by-cons}
-use Rattle.std.proofs.lemmas.List.Elements.{filter-append, filter_more, length_all_zip}
+use Rattle.std.proofs.lemmas.List.Elements.{filter-append, filter_more}
 use Rattle.lru_concrete.specs.declared.level.Level.{Level}
 use Rattle.lru_concrete.specs.declared.level.Side.{Side}
 use Rattle.lru_concrete.specs.declared.visit.Visit.{Visit}
 use Rattle.lru_concrete.specs.Limits.{most_latency, most_levels}
 use Rattle.lru_concrete.specs.Contents.{Content, block_in, holds, touching}
 use Rattle.lru_concrete.specs.Chains.{Held, Visited, Went, AreOfLevels, chain, cycles_of, finds_in, goes, held_of, latencies, levels_of, onward, serves, touch_in, visit_of}
-use Rattle.lru_concrete.specs.Walks.{IsVisit, KeepsLevels}
+use Rattle.lru_concrete.specs.Walks.{IsVisit}
 
 -- The first caches were gone through; what is left of the walk is the walk through the others.
 pub record IsWalked (side : Side) (address : ℕ) (levels : List Level) (start now : List Held) (i visited spent : ℕ) : Type 0 where

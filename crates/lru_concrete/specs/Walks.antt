@@ -1,5 +1,5 @@
 -- A walk of the code through the caches.
-use Rattle.std.specs.Prelude.{◌≡◌, ℕ, ◌+◌, ◌≤◌, Bool, List, length, take}
+use Rattle.std.specs.Prelude.{◌≡◌, ℕ, ◌≤◌, List, length, take}
 use Rattle.lru_concrete.specs.declared.level.Level.{Level}
 use Rattle.lru_concrete.specs.declared.level.Side.{Side}
 use Rattle.lru_concrete.specs.declared.visit.Visit.{Visit}

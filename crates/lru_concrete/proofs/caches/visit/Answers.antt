@@ -1,10 +1,7 @@
 -- One cache more, which is passed, or touched, or holds the block.
-use Rattle.std.proofs.Common.{rules, ◌≡◌, ◌<◌, ◌≤◌, ◌+◌, ℕ, Bool, true, false, List, length, get_or, set, refl, sym, ap, subst, ◌∙◌, arith}
-use Rattle.lru_concrete.specs.declared.level.Level.{Level}
-use Rattle.lru_concrete.specs.Limits.{most_levels}
-use Rattle.lru_concrete.specs.Contents.{Content}
-use Rattle.lru_concrete.specs.Chains.{AreOfLevels, held_of}
-use Rattle.lru_concrete.proofs.Walking.{IsWalked, length-contents, same-touched, walked-by, walked-miss, visit-hit, after-hit, visit-end, after-end}
+use Rattle.std.proofs.Common.{refl, sym, arith}
+use Rattle.lru_concrete.specs.Chains.{held_of}
+use Rattle.lru_concrete.proofs.Walking.{length-contents, same-touched, walked-by, walked-miss, visit-hit, after-hit, visit-end, after-end}
 use Rattle.lru_concrete.proofs.caches.visit.Goals as goal
 use Rattle.lru_concrete.proofs.caches.visit.Goals.{then-serves+else-touch, else-serves}
 

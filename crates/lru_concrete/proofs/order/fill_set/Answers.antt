@@ -1,8 +1,7 @@
 -- One way more stands in the list.
-use Rattle.std.proofs.Common.{◌≡◌, ◌<◌, ◌+◌, ◌++◌, ◌∷◌, [], ℕ, length, ap, subst, sym, ◌∙◌, length-set, arith}
-use Rattle.std.specs.List.{range_with_len}
+use Rattle.std.proofs.Common.{◌+◌, ◌++◌, ◌∷◌, [], ap, subst, sym, ◌∙◌}
 use Rattle.link_table.specs.Lists.{Lists, IsFree, items_of, with_list}
-use Rattle.lru_concrete.proofs.Ordering.{filled-free, filled-more, unfilled}
+use Rattle.lru_concrete.proofs.Ordering.{filled-free, filled-more}
 use Rattle.lru_concrete.proofs.order.fill_set.Goals as goal
 
 pub push_back-requires-clause-free : goal.push_back-requires-clause-free

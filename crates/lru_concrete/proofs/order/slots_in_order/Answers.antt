@@ -1,6 +1,6 @@
 -- The slots of the next set stand in no list yet.
-use Rattle.std.proofs.Common.{◌≡◌, ◌≤◌, ◌*◌, arith}
-use Rattle.lru_concrete.proofs.Ordering.{begun-free, begun-more, begun-all, begun-none}
+use Rattle.std.proofs.Common.{◌≡◌, ◌*◌, arith}
+use Rattle.lru_concrete.proofs.Ordering.{begun-free}
 use Rattle.lru_concrete.proofs.order.slots_in_order.Goals as goal
 
 pub fill_set-requires-clause-free : goal.fill_set-requires-clause-free

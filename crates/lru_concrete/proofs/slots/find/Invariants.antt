@@ -1,5 +1,5 @@
 -- No slot so far holds the block.
-use Rattle.std.proofs.Common.{◌≡◌, ◌≢◌, ℕ, ◌<◌, ◌≤◌, Some}
+use Rattle.std.proofs.Common.{◌≢◌, ℕ, ◌<◌, ◌≤◌, Some}
 use Rattle.lru_concrete.specs.Slots.{block_at}
 use Rattle.lru_concrete.proofs.slots.find.Given as goal
 

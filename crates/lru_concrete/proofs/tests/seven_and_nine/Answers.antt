@@ -1,5 +1,5 @@
 -- Two blocks of one set are lawful.
-use Rattle.std.proofs.Common.{rules, ◌≡◌, ◌≤◌, ◌%◌, ℕ, zero, suc, true, List, [], ◌∷◌, length, get_or, refl, sym, ap, subst, ◌∙◌, arith}
+use Rattle.std.proofs.Common.{rules, ◌≡◌, ◌≤◌, ℕ, zero, suc, true, List, [], ◌∷◌, length, get_or, refl, sym, arith}
 use Rattle.std.proofs.lemmas.Bool.{both_ways}
 use Rattle.link_table.specs.Items.{is_in, AreApart}
 use Rattle.lru_concrete.specs.declared.level.Shape.{Shape}

@@ -1,6 +1,6 @@
 -- Slots in order, without blocks.
-use Rattle.std.proofs.Common.{rules, ◌≡◌, None, replicate}
-use Rattle.lru_concrete.proofs.Ordering.{HoldsBlocks, holds-none}
+use Rattle.std.proofs.Common.{rules}
+use Rattle.lru_concrete.proofs.Ordering.{holds-none}
 use Rattle.lru_concrete.proofs.cache.Cache.empty.Goals as goal
 
 pub invariant_of-result : goal.invariant_of-result

@@ -1,5 +1,5 @@
 -- Slots in order, with the blocks in front.
-use Rattle.lru_concrete.proofs.Ordering.{HoldsBlocks, holds-given}
+use Rattle.lru_concrete.proofs.Ordering.{holds-given}
 use Rattle.lru_concrete.proofs.cache.Cache.holding.Goals as goal
 
 pub invariant_of-result : goal.invariant_of-result

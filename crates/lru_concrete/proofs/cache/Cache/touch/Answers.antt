@@ -1,8 +1,6 @@
 -- A touch of a block that a slot holds, or that the last slot takes.
-use Rattle.std.proofs.Common.{rules, ◌≡◌, ◌<◌, length}
-use Rattle.lru_concrete.specs.Slots.{KeepsSets}
-use Rattle.lru_concrete.specs.Contents.{IsLawful}
-use Rattle.lru_concrete.proofs.Moving.{IsTouched, hit-stands, hit-touched, hit-within, miss-stands, miss-within, miss-item, miss-touched, last-there, set-within}
+use Rattle.std.proofs.Common.{rules, ◌<◌, length}
+use Rattle.lru_concrete.proofs.Moving.{hit-stands, hit-touched, miss-stands, miss-within, miss-item, miss-touched, last-there, set-within}
 use Rattle.lru_concrete.proofs.cache.Cache.touch.Goals as goal
 
 pub renew-requires-clause-stands : goal.renew-requires-clause-stands

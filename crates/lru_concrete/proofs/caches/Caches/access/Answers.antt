@@ -1,5 +1,5 @@
 -- The latencies of the visited caches, and memory's where none of them held the block.
-use Rattle.std.proofs.Common.{◌≡◌, ◌+◌, ◌∙◌, refl}
+use Rattle.std.proofs.Common.{◌+◌, ◌∙◌, refl}
 use Rattle.std.proofs.lemmas.Bool.{not-true, not-false}
 use Rattle.lru_concrete.specs.Chains.{held_of, levels_of, goes}
 use Rattle.lru_concrete.proofs.Walking.{levels-held_of, visit-cached, visit-memory}
