@@ -129,6 +129,14 @@ fn pairs_and_options_join_part_by_part(rt: HostRuntime) -> Result<(), Fail> {
     Ok(())
 }
 
+/// How many doors of a room are open at most.
+fn doors_in(rooms: &Keyed<Doors>, room: u32) -> Option<u32> {
+    match rooms.get(room) {
+        Some(doors) => Some(doors.count),
+        None => None,
+    }
+}
+
 /// Two rooms with doors.
 fn rooms(alloc: Global, first: u32, second: u32) -> Result<Keyed<Doors>, AllocError>
     requires few { first ≤ 3 × second ≤ 3 }
@@ -146,8 +154,8 @@ fn a_key_keeps_what_both_maps_know(rt: HostRuntime) -> Result<(), Fail> {
     known.set(9, Doors { count: 1 })?;
     known.set(4, Doors { count: 3 })?;
     known.set(4, Doors { count: 2 })?;
-    assert_eq!(rt; known.get(4), Some(&Doors { count: 2 }));
-    assert_eq!(rt; known.get(5), None);
+    assert_eq!(rt; doors_in(&known, 4), Some(2));
+    assert_eq!(rt; doors_in(&known, 5), None);
     let copy = known.copy()?;
     assert!(rt; copy.leq(&known));
     Ok(())
@@ -157,15 +165,15 @@ fn a_key_keeps_what_both_maps_know(rt: HostRuntime) -> Result<(), Fail> {
 fn rooms_join_key_by_key(rt: HostRuntime) -> Result<(), Fail> {
     let (either, grew) = joined(rooms(rt.alloc(), 1, 2)?, &rooms(rt.alloc(), 2, 0)?)?;
     assert!(rt; grew);
-    assert_eq!(rt; either.get(4), Some(&Doors { count: 2 }));
-    assert_eq!(rt; either.get(9), Some(&Doors { count: 2 }));
+    assert_eq!(rt; doors_in(&either, 4), Some(2));
+    assert_eq!(rt; doors_in(&either, 9), Some(2));
     let (wider, grew) = widened(rooms(rt.alloc(), 1, 2)?, &rooms(rt.alloc(), 2, 0)?)?;
     assert!(rt; grew);
-    assert_eq!(rt; wider.get(4), Some(&Doors { count: 3 }));
-    assert_eq!(rt; wider.get(9), Some(&Doors { count: 2 }));
+    assert_eq!(rt; doors_in(&wider, 4), Some(3));
+    assert_eq!(rt; doors_in(&wider, 9), Some(2));
     let perhaps = maybe(&rooms(rt.alloc(), 1, 2)?, &rooms(rt.alloc(), 2, 0)?)?;
-    assert_eq!(rt; perhaps.get(4), Some(&Doors { count: 2 }));
-    assert_eq!(rt; perhaps.get(9), Some(&Doors { count: 2 }));
+    assert_eq!(rt; doors_in(&perhaps, 4), Some(2));
+    assert_eq!(rt; doors_in(&perhaps, 9), Some(2));
     Ok(())
 }
 
