@@ -6,7 +6,7 @@ use Rattle.std.proofs.lemmas.Bool.{cases_lt}
 use Rattle.std.proofs.lemmas.List.{append-nil, append_assoc, drop-drop, drop_all, drop-set-lt, drop_more, get_or-set_same, length-set, set-set, take-set-le, take_more_set}
 use Rattle.std.proofs.lemmas.Option.{none-some, same_Some}
 use Rattle.std.proofs.lemmas.List.Edits.{length-swap, swap_is}
-use Rattle.domain_laws.specs.Keys.{fits_at, has_given, keyed_has, shape_at}
+use Rattle.domain_laws.specs.Keys.{fits_at, has_given, shape_at}
 use Rattle.domain_laws.specs.Maps.{IsMap, Rises, always, value_at, topped_leq, topped_joined, map_leq, map_joined, entry_of}
 use Rattle.domain_laws.specs.MapValues.{value_here, value_joined, value_more, map_rest}
 use Rattle.domain_laws.specs.Shapes.{HaveShape, Shape}

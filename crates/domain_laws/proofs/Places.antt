@@ -1,11 +1,11 @@
 -- Places of keys in lists of entries, and what the search for a key tells.
-use Rattle.std.specs.Prelude.{◌≡◌, ℕ, zero, suc, ◌+◌, ◌<◌, ◌≤◌, Bool, List, [], ◌∷◌, ◌++◌, length, take, drop, Option, None, Some, slice_get, slice_set, refl}
+use Rattle.std.specs.Prelude.{◌≡◌, ℕ, zero, suc, ◌+◌, ◌<◌, ◌≤◌, List, [], ◌∷◌, length, None, Some, slice_get, slice_set, refl}
 use Rattle.std.specs.List.{insert}
 use Rattle.std.proofs.Common.{◌∙◌, ap, arith, inl, inr, subst, sym}
 use Rattle.std.proofs.lemmas.Bool.{cases_lt, cases_order}
 use Rattle.std.proofs.lemmas.Option.{none-some, same_Some}
 use Rattle.domain_laws.specs.Maps.{Rises, value_at, with_value}
-use Rattle.domain_laws.specs.MapValues.{rises_from, value_here, value_past, value_more, value_within}
+use Rattle.domain_laws.specs.MapValues.{value_here, value_past, value_more, value_within}
 use Rattle.domain_laws.specs.Places.{IsGapFor, IsKeyAt}
 use Rattle.domain_laws.proofs.Setting.{with_before, with_here, with_past}
 

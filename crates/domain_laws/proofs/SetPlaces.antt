@@ -1,5 +1,5 @@
 -- What a search by halving tells of the items of a set.
-use Rattle.std.specs.Prelude.{◌≡◌, ℕ, zero, suc, ◌+◌, ◌<◌, ◌≤◌, Bool, true, false, List, [], ◌∷◌, length, Result, Ok, Err, refl}
+use Rattle.std.specs.Prelude.{◌≡◌, ℕ, zero, suc, ◌+◌, ◌<◌, ◌≤◌, true, false, List, [], ◌∷◌, length, Result, Ok, Err, refl}
 use Rattle.std.specs.List.{insert}
 use Rattle.std.specs.List.Sorted.{IsBinarySearchResult}
 use Rattle.std.specs.Ordering.{nat_cmp}
@@ -8,7 +8,7 @@ use Rattle.std.proofs.Common.{◌∙◌, ap, arith, get_or, inl, inr, subst, sym
 use Rattle.std.proofs.lemmas.Bool.{cases_lt}
 use Rattle.std.proofs.lemmas.List.Sorted.{searched}
 use Rattle.domain_laws.specs.Sets.{Climbs, is_in, put}
-use Rattle.domain_laws.specs.SetLaws.{climbs_put, in_here, in_more, in_past, put_before, put_here, put_past}
+use Rattle.domain_laws.specs.SetLaws.{in_here, in_more, in_past, put_before, put_here, put_past}
 
 -- The items at later places are greater.
 above_first : (from place : ℕ) (items : List ℕ) → Climbs from items → place < length items → from ≤ get_or items place 0

@@ -1,11 +1,11 @@
 -- What a map gives after a key was given a value.
-use Rattle.std.specs.Prelude.{◌≡◌, ℕ, ◌+◌, ◌^◌, ◌<◌, ◌≤◌, Bool, true, false, ◌==◌, if◌then◌else◌, nat_lt, List, [], ◌∷◌, Option, None, Some, refl}
+use Rattle.std.specs.Prelude.{◌≡◌, ℕ, ◌+◌, ◌<◌, ◌≤◌, Bool, ◌==◌, if◌then◌else◌, List, [], ◌∷◌, Some, refl}
 use Rattle.std.proofs.Common.{◌∙◌, ap, arith, inl, inr, subst, sym}
 use Rattle.std.proofs.lemmas.Bool.{cases_eq, cases_order, eq-eqb, le-ltb, lt-ltb, ne_eqb}
 use Rattle.std.proofs.lemmas.Option.{same_Some}
 use Rattle.domain_laws.specs.Keys.{fits_at, keyed_has}
-use Rattle.domain_laws.specs.Maps.{IsMap, Rises, value_at, with_value}
-use Rattle.domain_laws.specs.MapValues.{value_here, value_past, value_low}
+use Rattle.domain_laws.specs.Maps.{Rises, value_at, with_value}
+use Rattle.domain_laws.specs.MapValues.{value_here, value_past}
 use Rattle.domain_laws.specs.Shapes.{Shape}
 
 -- The key comes before the first entry, in its place, or after it.

@@ -1,5 +1,5 @@
 -- Maps from keys of 32 bits: which have which shape, and their laws.
-use Rattle.std.specs.Prelude.{◌≡◌, ℕ, ◌+◌, ◌*◌, ◌^◌, ◌<◌, Bool, ◌==◌, if◌then◌else◌, List, [], ◌∷◌, Option, None, Some}
+use Rattle.std.specs.Prelude.{ℕ, ◌+◌, ◌*◌, ◌^◌, ◌<◌, Bool, ◌==◌, if◌then◌else◌, List, Option, None, Some}
 use Rattle.domain_laws.specs.Shapes.{Shape}
 use Rattle.domain_laws.specs.Shapes.Shape.{plain, pair, no_keys, key}
 use Rattle.domain_laws.specs.Laws.{IsLatticeOn, IsRankedOn, IsWideningOn, IsCeiling, IsLattice, IsRanked, IsWidening}

@@ -2,15 +2,15 @@
 --
 -- A map type of its own, as the words of memory or the ages of blocks, says in `ok` which values a key may
 -- have, and gives the laws of one value with none on top. It has the laws of its maps from here.
-use Rattle.std.specs.Prelude.{◌≡◌, ℕ, zero, suc, ◌+◌, ◌-◌, ◌*◌, ◌^◌, ◌<◌, ◌≤◌, Bool, true, false, List, [], ◌∷◌, Option, None, Some, refl}
+use Rattle.std.specs.Prelude.{◌≡◌, ℕ, ◌+◌, ◌-◌, ◌*◌, ◌<◌, ◌≤◌, Bool, true, List, [], ◌∷◌, Option, None, Some, refl}
 use Rattle.std.proofs.Common.{◌∙◌, ◌⊎◌, ap, ap₂, arith, inl, inr, subst, sym}
 use Rattle.std.proofs.Math.Nat.{mul-le-mul_left}
-use Rattle.std.proofs.lemmas.Bool.{cases_Bool, cases_lt, cases_order, false≢true}
-use Rattle.std.proofs.lemmas.Option.{none-some, same_Some}
+use Rattle.std.proofs.lemmas.Bool.{cases_Bool, cases_order, false≢true}
+use Rattle.std.proofs.lemmas.Option.{same_Some}
 use Rattle.domain_laws.specs.Laws.{IsLatticeOn, IsRankedOn, IsWideningOn, IsCeiling}
 use Rattle.domain_laws.specs.Options.{option_ok}
 use Rattle.domain_laws.specs.Maps.{Rises, value_at, IsMap, topped_leq, topped_joined, always, map_leq, map_joined, map_rank}
-use Rattle.domain_laws.specs.MapValues.{rises_from, value_here, value_past, value_low, value_more, value_within, same_values, leq_at, leq_from, rises_joined, value_joined, values_ok, map_rest}
+use Rattle.domain_laws.specs.MapValues.{value_here, value_past, value_low, value_more, value_within, same_values, leq_at, leq_from, rises_joined, value_joined, values_ok}
 
 -- Values with none on top are a lattice where the values are one and each join is a value.
 pub topped_lattice : {D : Type 0} {P : D → Type 0} {leq : D → D → Bool} {joined : D → D → D} → IsLatticeOn P leq joined →

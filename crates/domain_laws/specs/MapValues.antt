@@ -1,9 +1,9 @@
 -- What the value of a key is in a map, in joined maps and in one with another value.
-use Rattle.std.specs.Prelude.{◌≡◌, ℕ, zero, suc, ◌+◌, ◌<◌, ◌≤◌, Bool, true, false, ◌&&◌, ◌==◌, if◌then◌else◌, nat_lt, List, [], ◌∷◌, Option, None, Some, refl}
-use Rattle.std.proofs.Common.{◌∙◌, ap, ap₂, arith, cond, inl, inr, subst, sym}
+use Rattle.std.specs.Prelude.{◌≡◌, ℕ, ◌+◌, ◌<◌, ◌≤◌, Bool, true, if◌then◌else◌, List, [], ◌∷◌, Option, None, Some, refl}
+use Rattle.std.proofs.Common.{◌∙◌, ap, ap₂, arith, inl, inr, subst, sym}
 use Rattle.std.proofs.lemmas.Bool.{and_from, and_parts, cases_eq, cases_lt, cases_order, eq-eqb, ne_eqb}
 use Rattle.std.proofs.lemmas.Option.{none-some, same_Some}
-use Rattle.domain_laws.specs.Maps.{Rises, value_at, IsMap, topped_leq, topped_joined, map_leq, entry_of, map_joined, with_value}
+use Rattle.domain_laws.specs.Maps.{Rises, value_at, IsMap, topped_leq, topped_joined, map_leq, entry_of, map_joined}
 use Rattle.domain_laws.specs.Options.{option_ok}
 
 -- Of a map that rises from a number, it rises from each number up to it.

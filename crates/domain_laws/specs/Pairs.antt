@@ -1,5 +1,5 @@
 -- Pairs of values: one pair is under another one where both parts are.
-use Rattle.std.specs.Prelude.{◌≡◌, ℕ, ◌+◌, ◌<◌, Bool, true, false, ◌&&◌, refl}
+use Rattle.std.specs.Prelude.{ℕ, ◌+◌, ◌<◌, Bool, ◌&&◌}
 use Rattle.std.proofs.Common.{arith, ap₂, inl, inr}
 use Rattle.std.proofs.lemmas.Bool.{and_cases, and_from, and_parts}
 use Rattle.domain_laws.specs.Shapes.{Shape}

@@ -1,5 +1,5 @@
 -- Types whose values have one shape: that of no numbers.
-use Rattle.std.specs.Prelude.{ℕ, Bool, List, [], ◌∷◌}
+use Rattle.std.specs.Prelude.{ℕ, Bool, [], ◌∷◌}
 use Rattle.domain_laws.specs.Shapes.{Shape}
 use Rattle.domain_laws.specs.Shapes.Shape.{plain, pair, no_keys, key}
 use Rattle.domain_laws.specs.Laws.{IsLatticeOn, IsRankedOn, IsWideningOn, IsLattice, IsRanked, IsWidening}

@@ -1,5 +1,5 @@
 -- The key stands above or below the entry in the middle.
-use Rattle.std.specs.Prelude.{ℕ, ◌+◌, ◌-◌, ◌/◌}
+use Rattle.std.specs.Prelude.{◌+◌, ◌-◌, ◌/◌}
 use Rattle.std.proofs.Common.{arith}
 use Rattle.domain_laws.proofs.Places.{search_above, search_below}
 use Rattle.domain_laws.proofs.entries.place_of.Goals as goal

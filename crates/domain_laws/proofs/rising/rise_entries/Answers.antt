@@ -1,5 +1,5 @@
 -- The entry at the place goes, or stays with its raised value, and the pass ends behind the last entry.
-use Rattle.std.specs.Prelude.{◌≡◌, ℕ, ◌+◌, ◌||◌, List, not}
+use Rattle.std.specs.Prelude.{ℕ, ◌+◌, ◌||◌, List, not}
 use Rattle.std.proofs.Common.{◌∙◌, ap, arith, get_or, subst, sym}
 use Rattle.domain_laws.specs.Keys.{fits_at}
 use Rattle.domain_laws.specs.Maps.{Rises, always, map_leq}

@@ -18,9 +18,9 @@ has_few = plain_has (λ (n : ℕ). n ≤ 3)
 have_both : (first second : ℕ) → first ≤ 3 → second ≤ 3 → keyed_has has_few ((4, first) ∷ (9, second) ∷ []) both
 have_both first second p q =
     has-with_value has_few both 4 first ((9, second) ∷ [])
-        (has-with_value has_few both 9 second [] (record { rising = tt; each = λ at x there. absurd (none-some x there) })
-          (q, omega arith))
-        (p, omega arith)
+    (has-with_value has_few both 9 second [] (record { rising = tt; each = λ at x there. absurd (none-some x there) })
+    (q, omega arith))
+    (p, omega arith)
 
 fit : (first second : ℕ) (rooms : List (ℕ × ℕ)) → first ≤ 3 → second ≤ 3 → rooms ≡ (4, first) ∷ (9, second) ∷ [] →
     keyed_has has_few rooms both

@@ -1,7 +1,7 @@
 -- What the map gives after the key was given a value.
-use Rattle.std.specs.Prelude.{◌≡◌, ℕ, ◌≢◌, List, Some, Result, Ok, Err, OnOk, OnErr}
+use Rattle.std.specs.Prelude.{ℕ, List, Result, Ok, Err, OnOk, OnErr}
 use Rattle.std.proofs.Common.{◌∙◌, ap, arith, subst, sym}
-use Rattle.domain_laws.specs.Maps.{Rises, value_at, with_value}
+use Rattle.domain_laws.specs.Maps.{Rises, value_at}
 use Rattle.domain_laws.proofs.Setting.{rises_with, value_with_other, value_with_same}
 use Rattle.domain_laws.proofs.keyed.Keyed.set.Goals as goal
 
