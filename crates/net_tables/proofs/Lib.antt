@@ -1,0 +1,3 @@
+-- Lemmas on the tables of a net.
+pub mod Numbering
+pub mod Counting

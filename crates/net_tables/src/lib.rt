@@ -1,0 +1,9 @@
+//! Tables of a net that several analyses need, each made in one pass over its arcs or accesses.
+#![tactic(auto)]
+
+mod depths;
+mod numbers;
+mod tables;
+
+pub use depths::depths_of;
+pub use tables::{accesses_at, arcs_into, arcs_out};
