@@ -1,0 +1,4 @@
+pub mod Spans
+pub mod Divisors
+pub mod Order
+pub mod Results
