@@ -1,1 +1,5 @@
 -- Lemmas on lattices.
+pub mod Places
+pub mod Setting
+pub mod Passes
+pub mod SetPlaces

@@ -1,7 +1,7 @@
 -- What follows from the laws in every lattice.
-use Rattle.std.specs.Prelude.{◌≡◌, ℕ, ◌≤◌, Bool, true}
-use Rattle.std.proofs.Common.{ap, arith, inl, inr}
-use Rattle.std.proofs.lemmas.Bool.{cases_Bool}
+use Rattle.std.specs.Prelude.{◌≡◌, ℕ, ◌≤◌, Bool, true, false}
+use Rattle.std.proofs.Common.{◌∙◌, ap, arith, inl, inr, sym}
+use Rattle.std.proofs.lemmas.Bool.{cases_Bool, false≢true}
 use Rattle.domain_laws.specs.Shapes.{Shape}
 use Rattle.domain_laws.specs.Laws.{IsLatticeOn, IsRankedOn, IsWideningOn, IsCeiling, IsLattice, IsWidening}
 
@@ -40,4 +40,46 @@ pub rank_falls : {D : Type 0} {P : D → Type 0} {leq : D → D → Bool} {joine
 rank_falls {leq = leq} {rank = rank} laws ranks x y p q h = elim (cases_Bool (leq y x)) as (λ _. rank y ≤ rank x) [
   | inl k ↦ omega (arith, ap rank (laws.both x y p q h k))
   | inr k ↦ omega (arith, ranks.falls x y p q h k)
+]
+
+-- The laws hold among fewer values, where the join of two of them is one of them.
+pub fewer_lattice : {D : Type 0} {P Q : D → Type 0} {leq : D → D → Bool} {joined : D → D → D} → IsLatticeOn P leq joined →
+    ((x y : D) → P x → P y → Q x → Q y → Q (joined x y)) → IsLatticeOn (λ x. P x × Q x) leq joined
+fewer_lattice laws kept = record {
+  same = λ x p. laws.same x p.0;
+  chain = λ x y z p q r h k. laws.chain x y z p.0 q.0 r.0 h k;
+  both = λ x y p q h k. laws.both x y p.0 q.0 h k;
+  kept = λ x y p q. (laws.kept x y p.0 q.0, kept x y p.0 q.0 p.1 q.1);
+  left = λ x y p q. laws.left x y p.0 q.0;
+  right = λ x y p q. laws.right x y p.0 q.0;
+  least = λ x y z p q r h k. laws.least x y z p.0 q.0 r.0 h k;
+}
+
+pub fewer_ranks : {D : Type 0} {P Q : D → Type 0} {leq : D → D → Bool} {rank : D → ℕ} {height : ℕ} →
+    IsRankedOn P leq rank height → IsRankedOn (λ x. P x × Q x) leq rank height
+fewer_ranks laws = record {
+  within = λ x p. laws.within x p.0;
+  falls = λ x y p q h k. laws.falls x y p.0 q.0 h k;
+}
+
+pub fewer_widening : {D : Type 0} {P Q : D → Type 0} {leq : D → D → Bool} {widened : D → D → D} → IsWideningOn P leq widened →
+    ((x y : D) → P x → P y → Q x → Q y → Q (widened x y)) → IsWideningOn (λ x. P x × Q x) leq widened
+fewer_widening laws kept = record {
+  kept = λ x y p q. (laws.kept x y p.0 q.0, kept x y p.0 q.0 p.1 q.1);
+  left = λ x y p q. laws.left x y p.0 q.0;
+  right = λ x y p q. laws.right x y p.0 q.0;
+}
+
+-- A value that has another one under it is their join, and one that hasn't grows by it.
+pub absorbs : {D : Type 0} {P : D → Type 0} {leq : D → D → Bool} {joined : D → D → D} → IsLatticeOn P leq joined →
+    (x y : D) → P x → P y → leq y x ≡ true → joined x y ≡ x
+absorbs {joined = joined} laws x y p q h =
+    laws.both (joined x y) x (laws.kept x y p q) p (laws.least x y x p q p (laws.same x p) h) (laws.left x y p q)
+
+pub grows : {D : Type 0} {P : D → Type 0} {leq : D → D → Bool} {joined : D → D → D} → IsLatticeOn P leq joined →
+    (x y : D) → P x → P y → leq y x ≡ false → leq (joined x y) x ≡ false
+grows {leq = leq} {joined = joined} laws x y p q h = elim (cases_Bool (leq (joined x y) x)) as (λ _. leq (joined x y) x ≡ false) [
+  | inl k ↦ absurd (false≢true (sym h ∙
+      laws.chain y (joined x y) x q (laws.kept x y p q) p (laws.right x y p q) k))
+  | inr k ↦ k
 ]

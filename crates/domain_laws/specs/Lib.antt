@@ -6,3 +6,10 @@ pub mod Plain
 pub mod Transfers
 pub mod Options
 pub mod Pairs
+pub mod Maps
+pub mod MapValues
+pub mod MapLaws
+pub mod Keys
+pub mod Places
+pub mod Sets
+pub mod SetLaws

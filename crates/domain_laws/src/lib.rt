@@ -7,12 +7,20 @@
 //! methods speak of the functions alone. A new domain gives the functions, the methods and a proof of each law.
 #![tactic(auto)]
 
+mod capped;
+mod entries;
+mod keyed;
 mod lattice;
 mod option;
 mod pair;
+mod rising;
 #[cfg(test)]
 mod tests;
 mod transfer;
+mod uncertain;
 
+pub use capped::Capped;
+pub use keyed::Keyed;
 pub use lattice::{Height, Lattice, Widen};
 pub use transfer::Transfer;
+pub use uncertain::maybe;
