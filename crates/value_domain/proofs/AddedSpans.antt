@@ -1,13 +1,14 @@
 -- Sums and differences of spans: what they hold, that they rise, and those of one number.
-use Rattle.std.proofs.Common.{◌≡◌, ℕ, ◌<◌, ◌≤◌, ◌+◌, ◌-◌, ◌*◌, ◌/◌, ◌%◌, ◌^◌, refl, sym, ap, subst, ◌∙◌, arith}
+use Rattle.std.proofs.Common.{◌≡◌, ℕ, ◌+◌, ◌-◌, ◌%◌, ◌^◌, arith}
 use Rattle.std.specs.Int.{◌∣◌}
 use Rattle.std.proofs.lemmas.Nat.Gcd.{dvd_trans, dvd_of_mod-eq-zero, mod-eq-zero_of_dvd}
 use Rattle.std.proofs.Math.Nat.{dvd-add, dvd-sub}
 use Rattle.value_domain.specs.Spans.{Span, IsStrided, IsWhole, Holds, single}
 use Rattle.value_domain.specs.Divisors.{gcd}
 use Rattle.value_domain.specs.Results.{wrapped, added, taken_from, turned}
-use Rattle.value_domain.proofs.CommonDivisors.{gcd-is}
-use Rattle.value_domain.proofs.Wholes.{Under, under_same, on_step, step_whole, strided_single, holds_single, strided_wrapped, holds_wrapped, wrapped_rises, single_wrapped}
+use Rattle.value_domain.specs.DivisorLemmas.{gcd-is, no_step}
+use Rattle.value_domain.specs.OrderLemmas.{Under, under_same, on_step, step_whole}
+use Rattle.value_domain.proofs.Wholes.{strided_single, holds_single, strided_wrapped, holds_wrapped, wrapped_rises, single_wrapped}
 
 pub whole_of : (a : Span) → IsStrided a → IsWhole a.lo a.hi a.step
 whole_of a p = record { order = p.order; whole = p.whole; one = p.one }
@@ -19,10 +20,6 @@ divides_both : (a b : Span) (x y : ℕ) → a.step ∣ x → b.step ∣ y → gc
 divides_both a b x y p q =
     let g = gcd-is a.step b.step in
     dvd-add (gcd a.step b.step) (dvd_trans _ g.0 p) (dvd_trans _ g.1 q)
-
-pub no_step : gcd 0 0 ≡ 0
-unfolding gcd
-no_step = refl
 
 pub whole_sum : (a b : Span) → IsWhole a.lo a.hi a.step → IsWhole b.lo b.hi b.step
     → IsWhole (a.lo + b.lo) (a.hi + b.hi) (gcd a.step b.step)

@@ -1,15 +1,15 @@
 -- Operations bit by bit on spans: what they hold, and that they rise.
-use Rattle.std.proofs.Common.{◌≡◌, ℕ, zero, suc, ◌<◌, ◌≤◌, ◌+◌, ◌-◌, ◌*◌, ◌%◌, ◌^◌, ◌&&◌, Bool, true, false, cond, eqb, min, max, refl, sym, ap, subst, ◌∙◌, arith}
+use Rattle.std.proofs.Common.{◌≡◌, ℕ, ◌<◌, ◌≤◌, ◌+◌, ◌-◌, ◌^◌, ◌&&◌, true, min, max, refl, sym, ap, subst, ◌∙◌, arith}
 use Rattle.std.specs.Prelude.{bit_and, bit_or, bit_xor}
 use Rattle.std.specs.Int.Bits.{or_add_and, xor_add_and}
-use Rattle.std.specs.Int.{◌∣◌}
 use Rattle.std.proofs.lemmas.Bool.{cond_both, cond-true, eqb-true, eq-eqb, and_parts, and_from}
 use Rattle.std.proofs.lemmas.Nat.{and_le_l, and_le_r, le_or_l, le_or_r, or_of_32, xor_of_32}
 use Rattle.std.proofs.lemmas.Nat.Gcd.{dvd-zero, dvd_trans, mod-eq-zero_of_dvd}
 use Rattle.std.proofs.Math.Nat.{dvd-sub}
 use Rattle.value_domain.specs.Spans.{Span, IsStrided, Holds, single, between, is_single}
 use Rattle.value_domain.specs.Results.{exact_or, anded, ored, xored, inverted, nored}
-use Rattle.value_domain.proofs.Wholes.{Under, under_same, on_step, step_whole, strided_single, strided_between, holds_single, holds_between, between_above}
+use Rattle.value_domain.specs.OrderLemmas.{Under, under_same, on_step, step_whole}
+use Rattle.value_domain.proofs.Wholes.{strided_single, strided_between, holds_single, holds_between, between_above}
 
 -- ---- exact for one number each, else between two ends
 
@@ -43,10 +43,10 @@ holds_bits : (value : ℕ → ℕ → ℕ) (a b : Span) (lo hi x y : ℕ) → Li
 holds_bits value a b lo hi x y l h k =
     cond_both (is_single a && is_single b) (single (value a.lo b.lo)) (between lo hi) (λ (s : Span). Holds s (value x y))
     (λ e.
-      let both = both_single a b e in
-      let f : x ≡ a.lo = omega (arith, both.0, h.low, h.high) in
-      let g : y ≡ b.lo = omega (arith, both.1, k.low, k.high) in
-      rw (f, g) (holds_single (value a.lo b.lo)))
+    let both = both_single a b e in
+    let f : x ≡ a.lo = omega (arith, both.0, h.low, h.high) in
+    let g : y ≡ b.lo = omega (arith, both.1, k.low, k.high) in
+    rw (f, g) (holds_single (value a.lo b.lo)))
     (λ _. holds_between lo hi (value x y) (l.low x y h k) (l.high x y h k))
 
 bits_low : (value : ℕ → ℕ → ℕ) (a b : Span) (lo hi : ℕ) → IsStrided a → IsStrided b → LieBetween value a b lo hi
@@ -71,16 +71,16 @@ bits_rise : (value : ℕ → ℕ → ℕ) (a b c d : Span) (lo hi low high : ℕ
 bits_rise value a b c d lo hi low high p q u v l le ge =
     cond_both (is_single c && is_single d) (single (value c.lo d.lo)) (between low high) (λ (s : Span). Under (exact_or value a b (between lo hi)) s)
     (λ e.
-      let both = both_single c d e in
-      let f : a.lo ≡ c.lo = omega (arith, both.0, u.low, u.high, p.order) in
-      let g : b.lo ≡ d.lo = omega (arith, both.1, v.low, v.high, q.order) in
-      let same : exact_or value a b (between lo hi) ≡ single (value c.lo d.lo) =
-          single_bits value a b (between lo hi) (omega (arith, both.0, u.low, u.high, p.order)) (omega (arith, both.1, v.low, v.high, q.order))
-          ∙ ap (λ (n : ℕ). single (value n b.lo)) f ∙ ap (λ (n : ℕ). single (value c.lo n)) g in
-      subst (λ (s : Span). Under s (single (value c.lo d.lo))) (sym same) (under_same _))
+    let both = both_single c d e in
+    let f : a.lo ≡ c.lo = omega (arith, both.0, u.low, u.high, p.order) in
+    let g : b.lo ≡ d.lo = omega (arith, both.1, v.low, v.high, q.order) in
+    let same : exact_or value a b (between lo hi) ≡ single (value c.lo d.lo) =
+    single_bits value a b (between lo hi) (omega (arith, both.0, u.low, u.high, p.order)) (omega (arith, both.1, v.low, v.high, q.order))
+    ∙ ap (λ (n : ℕ). single (value n b.lo)) f ∙ ap (λ (n : ℕ). single (value c.lo n)) g in
+    subst (λ (s : Span). Under s (single (value c.lo d.lo))) (sym same) (under_same _))
     (λ _.
-      between_above (exact_or value a b (between lo hi)) low high (strided_bits value a b lo hi p q l)
-      (omega (arith, bits_low value a b lo hi p q l)) (omega (arith, bits_high value a b lo hi p q l)))
+    between_above (exact_or value a b (between lo hi)) low high (strided_bits value a b lo hi p q l)
+    (omega (arith, bits_low value a b lo hi p q l)) (omega (arith, bits_high value a b lo hi p q l)))
 
 -- ---- the ends of each
 

@@ -1,13 +1,14 @@
 -- Comparisons of spans: what they hold, and that they rise.
-use Rattle.std.proofs.Common.{◌≡◌, ℕ, zero, suc, ◌<◌, ◌≤◌, ◌+◌, ◌-◌, ◌%◌, ◌^◌, Bool, true, false, cond, ltb, leb, refl, sym, ap, subst, ◌∙◌, arith, inl, inr, ℤ, pos, negsuc}
-use Rattle.std.specs.Int.{w32, cast_signed, from_bool}
+use Rattle.std.proofs.Common.{◌≡◌, ℕ, suc, ◌<◌, ◌≤◌, ◌+◌, ◌-◌, ◌%◌, ◌^◌, Bool, true, false, cond, ltb, leb, refl, sym, ap, subst, ◌∙◌, arith, inl, inr, pos, negsuc}
+use Rattle.std.specs.Int.{w32, from_bool}
 use Rattle.std.specs.Prelude.{int_lt}
-use Rattle.std.proofs.lemmas.Bool.{cases_lt, cond_both, cond-true, cond-false, ltb-true, ltb-false, leb-true, leb-false, lt-ltb, le-ltb, le-leb, lt-leb}
+use Rattle.std.proofs.lemmas.Bool.{cases_lt, cond_both, cond-true, cond-false, ltb-true, ltb-false, leb-true, lt-ltb, le-ltb, le-leb}
 use Rattle.std.proofs.lemmas.Int.{to_z_pos}
 use Rattle.mips_decode.specs.Arithmetic.{is_less, is_less_signed, signed}
 use Rattle.value_domain.specs.Spans.{Span, IsStrided, Holds, single, between}
 use Rattle.value_domain.specs.Results.{compared, compared_signed, turned}
-use Rattle.value_domain.proofs.Wholes.{Under, under_same, strided_single, strided_between, holds_single, holds_between, between_above}
+use Rattle.value_domain.specs.OrderLemmas.{Under, under_same}
+use Rattle.value_domain.proofs.Wholes.{strided_single, strided_between, holds_single, holds_between, between_above}
 use Rattle.value_domain.proofs.AddedSpans.{strided_turned, holds_turned, turned_rises, single_turned}
 
 -- ---- three answers
@@ -66,8 +67,9 @@ compared_rises a b c d p q u v =
 
 pub single_compared : (x y : ℕ) → compared (single x) (single y) ≡ single (is_less x y)
 single_compared x y = elim (cases_lt x y) [
-    inl lt ↦ surely_less (single x) (single y) lt ∙ ap single (sym (is_one x y lt))
-  | inr le ↦ surely_not (single x) (single y) le le ∙ ap single (sym (is_zero x y le)) ]
+  | inl lt ↦ surely_less (single x) (single y) lt ∙ ap single (sym (is_one x y lt))
+  | inr le ↦ surely_not (single x) (single y) le le ∙ ap single (sym (is_zero x y le))
+]
 
 -- ---- signed numbers are in the order of the numbers moved by 2 ^ 31
 
@@ -81,18 +83,22 @@ signed_high x le =
 
 same_test : (a b c d : ℕ) → (a < b → c < d) → (b ≤ a → d ≤ c) → ltb a b ≡ ltb c d
 same_test a b c d f g = elim (cases_lt a b) [
-    inl lt ↦ lt-ltb a b lt ∙ sym (lt-ltb c d (f lt))
-  | inr le ↦ le-ltb a b le ∙ sym (le-ltb c d (g le)) ]
+  | inl lt ↦ lt-ltb a b lt ∙ sym (lt-ltb c d (f lt))
+  | inr le ↦ le-ltb a b le ∙ sym (le-ltb c d (g le))
+]
 
 signed_order : (x y : ℕ) → x < 2 ^ 32 → y < 2 ^ 32
     → int_lt (signed x) (signed y) ≡ ltb ((x + 2 ^ 31) % 2 ^ 32) ((y + 2 ^ 31) % 2 ^ 32)
 signed_order x y p q = elim (cases_lt x (2 ^ 31)) [
-    inl a ↦ elim (cases_lt y (2 ^ 31)) [
-        inl b ↦ rw (signed_low x a, signed_low y b) (same_test x y _ _ (λ lt. omega arith) (λ le. omega arith))
-      | inr b ↦ rw (signed_low x a, signed_high y b) (sym (le-ltb _ _ (omega arith))) ]
+  | inl a ↦ elim (cases_lt y (2 ^ 31)) [
+    | inl b ↦ rw (signed_low x a, signed_low y b) (same_test x y _ _ (λ lt. omega arith) (λ le. omega arith))
+    | inr b ↦ rw (signed_low x a, signed_high y b) (sym (le-ltb _ _ (omega arith)))
+  ]
   | inr a ↦ elim (cases_lt y (2 ^ 31)) [
-        inl b ↦ rw (signed_high x a, signed_low y b) (sym (lt-ltb _ _ (omega arith)))
-      | inr b ↦ rw (signed_high x a, signed_high y b) (same_test (2 ^ 32 - suc y) (2 ^ 32 - suc x) _ _ (λ lt. omega arith) (λ le. omega arith)) ] ]
+    | inl b ↦ rw (signed_high x a, signed_low y b) (sym (lt-ltb _ _ (omega arith)))
+    | inr b ↦ rw (signed_high x a, signed_high y b) (same_test (2 ^ 32 - suc y) (2 ^ 32 - suc x) _ _ (λ lt. omega arith) (λ le. omega arith))
+  ]
+]
 
 pub less_turned : (x y : ℕ) → x < 2 ^ 32 → y < 2 ^ 32
     → is_less_signed x y ≡ is_less ((x + 2 ^ 31) % 2 ^ 32) ((y + 2 ^ 31) % 2 ^ 32)

@@ -1,7 +1,7 @@
 -- Lemmas on spans.
 pub mod AddedSpans
 pub mod BitSpans
-pub mod CommonDivisors
+pub mod HeldNumbers
 pub mod LessSpans
 pub mod ResultSpans
 pub mod ShiftedSpans

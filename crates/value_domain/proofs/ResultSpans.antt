@@ -1,5 +1,5 @@
 -- Each operation's span: what it holds, that it rises, and that of single numbers.
-use Rattle.std.proofs.Common.{◌≡◌, ℕ, zero, suc, ◌<◌, ◌≤◌, ◌+◌, ◌-◌, ◌*◌, ◌/◌, ◌%◌, ◌^◌, Bool, true, false, cond, eqb, ltb, Option, Some, None, refl, sym, ap, subst, ◌∙◌, arith}
+use Rattle.std.proofs.Common.{◌≡◌, ℕ, ◌<◌, ◌+◌, ◌-◌, ◌%◌, ◌^◌, true, ltb, Some, refl, sym, ap, subst, ◌∙◌, arith}
 use Rattle.std.proofs.lemmas.Bool.{cond_both, cond-true, eqb-true, eq-eqb}
 use Rattle.mips_decode.specs.declared.instr.Op3.{Op3}
 use Rattle.mips_decode.specs.declared.instr.Op3.TheVariants.{Sllv, Srlv, Srav, Add, Addu, Sub, Subu, And, Or, Xor, Nor, Slt, Sltu}
@@ -9,9 +9,10 @@ use Rattle.mips_decode.specs.declared.instr.ImmOp.{ImmOp}
 use Rattle.mips_decode.specs.declared.instr.ImmOp.TheVariants.{Addi, Addiu, Slti, Sltiu, Andi, Ori, Xori}
 use Rattle.mips_decode.specs.Arithmetic.{shift_value, three_value, imm_value, sign_extended}
 use Rattle.value_domain.specs.Order.{leq}
-use Rattle.value_domain.specs.Results.{shift_span, varied, three_span, imm_span, added, taken_from, anded, ored, xored, nored, compared, compared_signed, shifted_left, shifted_right, shifted_signed}
+use Rattle.value_domain.specs.Results.{shift_span, varied, three_span, imm_span, added, taken_from, anded, ored, xored, nored, compared, compared_signed, shifted_signed}
 use Rattle.value_domain.specs.Spans.{Span, IsStrided, Holds, single, everything, is_single}
-use Rattle.value_domain.proofs.Wholes.{Under, under, from_under, under_same, under_everything, strided_single, strided_everything, holds_single, holds_everything}
+use Rattle.value_domain.specs.OrderLemmas.{Under, under, from_under, under_same, under_everything}
+use Rattle.value_domain.proofs.Wholes.{strided_single, strided_everything, holds_single, holds_everything}
 use Rattle.value_domain.proofs.AddedSpans.{strided_added, holds_added, added_rises, single_added, strided_taken, holds_taken, taken_rises, single_taken}
 use Rattle.value_domain.proofs.BitSpans.{strided_anded, holds_anded, anded_rises, single_anded, strided_ored, holds_ored, ored_rises, single_ored, strided_xored, holds_xored, xored_rises, single_xored, strided_nored, holds_nored, nored_rises, single_nored}
 use Rattle.value_domain.proofs.LessSpans.{strided_compared, holds_compared, compared_rises, single_compared, strided_compared_signed, holds_compared_signed, compared_signed_rises, single_compared_signed}
@@ -76,8 +77,8 @@ unfolding varied
 varied_holds op a b x y p h k =
     cond_both (is_single b) (shift_span op a (b.lo % 32)) everything (λ (s : Span). Holds s (shift_value op x (y % 32)))
     (λ e.
-      let same : y ≡ b.lo = omega (arith, eqb-true _ _ e, k.low, k.high) in
-      rw same (shift_holds op a (b.lo % 32) x (omega arith) p h))
+    let same : y ≡ b.lo = omega (arith, eqb-true _ _ e, k.low, k.high) in
+    rw same (shift_holds op a (b.lo % 32) x (omega arith) p h))
     (λ _. holds_everything _ (shift_small op x (y % 32) (omega arith) (small a x p h)))
 
 under_varied : (op : ShiftOp) (a b c d : Span) → IsStrided a → IsStrided b → Under a c → Under b d → Under (varied op a b) (varied op c d)
@@ -85,10 +86,10 @@ unfolding varied
 under_varied op a b c d p q u v =
     cond_both (is_single d) (shift_span op c (d.lo % 32)) everything (λ (s : Span). Under (varied op a b) s)
     (λ e.
-      let f : b.lo ≡ d.lo = omega (arith, eqb-true _ _ e, v.low, v.high, q.order) in
-      let g : b.lo ≡ b.hi = omega (arith, eqb-true _ _ e, v.low, v.high, q.order) in
-      let same : varied op a b ≡ shift_span op a (d.lo % 32) = varied_single op a b g ∙ ap (λ (n : ℕ). shift_span op a (n % 32)) f in
-      subst (λ (s : Span). Under s (shift_span op c (d.lo % 32))) (sym same) (under_shift op a c (d.lo % 32) p u))
+    let f : b.lo ≡ d.lo = omega (arith, eqb-true _ _ e, v.low, v.high, q.order) in
+    let g : b.lo ≡ b.hi = omega (arith, eqb-true _ _ e, v.low, v.high, q.order) in
+    let same : varied op a b ≡ shift_span op a (d.lo % 32) = varied_single op a b g ∙ ap (λ (n : ℕ). shift_span op a (n % 32)) f in
+    subst (λ (s : Span). Under s (shift_span op c (d.lo % 32))) (sym same) (under_shift op a c (d.lo % 32) p u))
     (λ _. let s = varied_strided op a b p in under_everything (varied op a b) s.top)
 
 single_varied : (op : ShiftOp) (x y : ℕ) → x < 2 ^ 32 → varied op (single x) (single y) ≡ single (shift_value op x (y % 32))

@@ -1,15 +1,16 @@
 -- Shifts of spans: what they hold, and that they rise.
-use Rattle.std.proofs.Common.{◌≡◌, ℕ, zero, suc, ◌<◌, ◌≤◌, ◌+◌, ◌-◌, ◌*◌, ◌/◌, ◌%◌, ◌^◌, Bool, true, false, cond, eqb, refl, sym, ap, subst, ◌∙◌, arith, inl, inr}
+use Rattle.std.proofs.Common.{◌≡◌, ℕ, zero, suc, ◌<◌, ◌≤◌, ◌+◌, ◌-◌, ◌*◌, ◌/◌, ◌%◌, ◌^◌, refl, sym, ap, subst, ◌∙◌, arith}
 use Rattle.std.specs.Int.{◌∣◌}
-use Rattle.std.proofs.lemmas.Bool.{cond_both, eqb-true, eq-eqb, cases_Bool, cond-true, cond-false}
+use Rattle.std.proofs.lemmas.Bool.{cond_both, cond-true}
 use Rattle.std.proofs.lemmas.Nat.{pow_pos, pow-add, shl-shr, le-div}
-use Rattle.std.proofs.lemmas.Nat.Gcd.{dvd_refl, dvd-zero, dvd_trans, dvd_of_mod-eq-zero, mod-eq-zero_of_dvd}
+use Rattle.std.proofs.lemmas.Nat.Gcd.{dvd-zero, dvd_trans, dvd_of_mod-eq-zero, mod-eq-zero_of_dvd}
 use Rattle.std.proofs.Math.Nat.{mul-dvd-mul_right, dvd_of_mul-dvd-mul_left, add-mul-div_left, mul-div_cancel', div-mul-le_self, div-le_self}
 use Rattle.value_domain.specs.Spans.{Span, IsStrided, IsWhole, Holds, single, between}
 use Rattle.value_domain.specs.Divisors.{divides}
-use Rattle.value_domain.specs.Results.{wrapped, shifted_left, shifted_right, shifted_signed, added, turned}
-use Rattle.value_domain.proofs.CommonDivisors.{divides_from, from_divides}
-use Rattle.value_domain.proofs.Wholes.{Under, under_same, on_step, step_whole, strided_single, holds_single, strided_between, holds_between, between_above, strided_wrapped, holds_wrapped, wrapped_rises, single_wrapped}
+use Rattle.value_domain.specs.Results.{shifted_left, shifted_right, shifted_signed, added, turned}
+use Rattle.value_domain.specs.DivisorLemmas.{divides_from, from_divides}
+use Rattle.value_domain.specs.OrderLemmas.{Under, under_same, on_step, step_whole}
+use Rattle.value_domain.proofs.Wholes.{strided_single, holds_single, strided_between, holds_between, between_above, strided_wrapped, holds_wrapped, wrapped_rises, single_wrapped}
 use Rattle.value_domain.proofs.AddedSpans.{strided_added, holds_added, added_rises, single_added, strided_turned, holds_turned, turned_rises, single_turned}
 
 -- ---- products of distances
@@ -128,14 +129,14 @@ unfolding shifted_right
 holds_right a by x h =
     cond_both (divides (2 ^ by) a.step) (down a (2 ^ by)) (between (a.lo / 2 ^ by) (a.hi / 2 ^ by)) (λ (s : Span). Holds s (x / 2 ^ by))
     (λ e.
-      let m = 2 ^ by in
-      let d = from_divides m a.step e in
-      let q = quotient_distance x a.lo m (pow_pos by) h.low (dvd_trans m d (on_step a x h)) in
-      record {
-        low = quotient_order a.lo x m (pow_pos by) h.low;
-        high = quotient_order x a.hi m (pow_pos by) h.high;
-        on = rw q (mod-eq-zero_of_dvd _ (quotient_divides a.step (x - a.lo) m (pow_pos by) d (on_step a x h)));
-      })
+    let m = 2 ^ by in
+    let d = from_divides m a.step e in
+    let q = quotient_distance x a.lo m (pow_pos by) h.low (dvd_trans m d (on_step a x h)) in
+    record {
+      low = quotient_order a.lo x m (pow_pos by) h.low;
+      high = quotient_order x a.hi m (pow_pos by) h.high;
+      on = rw q (mod-eq-zero_of_dvd _ (quotient_divides a.step (x - a.lo) m (pow_pos by) d (on_step a x h)));
+    })
     (λ _. holds_between (a.lo / 2 ^ by) (a.hi / 2 ^ by) (x / 2 ^ by) (quotient_order a.lo x (2 ^ by) (pow_pos by) h.low) (quotient_order x a.hi (2 ^ by) (pow_pos by) h.high))
 
 right_lo : (a : Span) (by : ℕ) → (shifted_right a by).lo ≡ a.lo / 2 ^ by
@@ -157,19 +158,19 @@ unfolding shifted_right
 right_rises a c by s u =
     cond_both (divides (2 ^ by) c.step) (down c (2 ^ by)) (between (c.lo / 2 ^ by) (c.hi / 2 ^ by)) (λ (t : Span). Under (shifted_right a by) t)
     (λ e.
-      let m = 2 ^ by in
-      let d = from_divides m c.step e in
-      let q = quotient_distance a.lo c.lo m (pow_pos by) u.low (dvd_trans m d u.start) in
-      subst (λ (t : Span). Under t (down c m)) (sym (exactly_right a by (dvd_trans m d u.step))) (record {
-        low = quotient_order c.lo a.lo m (pow_pos by) u.low;
-        high = quotient_order a.hi c.hi m (pow_pos by) u.high;
-        start = rw q (quotient_divides c.step (a.lo - c.lo) m (pow_pos by) d u.start);
-        step = quotient_divides c.step a.step m (pow_pos by) d u.step;
-      }))
+    let m = 2 ^ by in
+    let d = from_divides m c.step e in
+    let q = quotient_distance a.lo c.lo m (pow_pos by) u.low (dvd_trans m d u.start) in
+    subst (λ (t : Span). Under t (down c m)) (sym (exactly_right a by (dvd_trans m d u.step))) (record {
+      low = quotient_order c.lo a.lo m (pow_pos by) u.low;
+      high = quotient_order a.hi c.hi m (pow_pos by) u.high;
+      start = rw q (quotient_divides c.step (a.lo - c.lo) m (pow_pos by) d u.start);
+      step = quotient_divides c.step a.step m (pow_pos by) d u.step;
+    }))
     (λ _.
-      between_above (shifted_right a by) (c.lo / 2 ^ by) (c.hi / 2 ^ by) (strided_right a by s)
-      (omega (arith, right_lo a by, quotient_order c.lo a.lo (2 ^ by) (pow_pos by) u.low))
-      (omega (arith, right_hi a by, quotient_order a.hi c.hi (2 ^ by) (pow_pos by) u.high)))
+    between_above (shifted_right a by) (c.lo / 2 ^ by) (c.hi / 2 ^ by) (strided_right a by s)
+    (omega (arith, right_lo a by, quotient_order c.lo a.lo (2 ^ by) (pow_pos by) u.low))
+    (omega (arith, right_hi a by, quotient_order a.hi c.hi (2 ^ by) (pow_pos by) u.high)))
 
 pub single_right : (x by : ℕ) → shifted_right (single x) by ≡ single (x / 2 ^ by)
 single_right x by = exactly_right (single x) by (dvd-zero (2 ^ by)) ∙ step_zero (2 ^ by) (x / 2 ^ by)

@@ -1,5 +1,5 @@
 -- Signed results as numbers modulo 2 ^ 32: sums, differences and shifts.
-use Rattle.std.proofs.Common.{◌≡◌, ℕ, zero, suc, ◌<◌, ◌≤◌, ◌+◌, ◌-◌, ◌*◌, ◌/◌, ◌%◌, ◌^◌, Bool, true, false, cond, Option, Some, None, ltb, refl, sym, ap, subst, ◌∙◌, arith, inl, inr, ℤ, pos, negsuc}
+use Rattle.std.proofs.Common.{◌≡◌, ℕ, zero, suc, ◌<◌, ◌≤◌, ◌+◌, ◌-◌, ◌*◌, ◌/◌, ◌%◌, ◌^◌, Bool, true, false, cond, Some, None, refl, sym, ap, subst, ◌∙◌, arith, inl, inr, ℤ, pos, negsuc}
 use Rattle.std.specs.Prelude.{◌+ℤ◌, ◌-ℤ◌, FitsSigned}
 use Rattle.std.specs.Int.{w32, cast_signed, cast_unsigned, int_wrap, int_shr}
 use Rattle.std.proofs.lemmas.Bool.{ltb-true, cases_lt}
@@ -45,7 +45,7 @@ mirrored m k t p lt =
     let e : k ≡ t / m + 1 + (k - 1 - t / m) = omega arith in
     let d : m * (t / m) + t % m ≡ t = div-add-mod t m in
     let s : (m * (t / m + 1 + (k - 1 - t / m)) - 1 - (m * (t / m) + t % m)) / m ≡ k - 1 - t / m =
-        mirrored_parts m (t / m) (t % m) (k - 1 - t / m) (mod_small t m p) in
+    mirrored_parts m (t / m) (t % m) (k - 1 - t / m) (mod_small t m p) in
     subst (λ (n : ℕ). (m * n - 1 - t) / m ≡ k - 1 - t / m) (sym e)
     (subst (λ (n : ℕ). (m * (t / m + 1 + (k - 1 - t / m)) - 1 - n) / m ≡ k - 1 - t / m) d s)
   where
@@ -77,9 +77,10 @@ shift_of x by lt small =
     let f : 2 ^ by * 2 ^ (31 - by) ≡ 2 ^ 31 = sym (pow-add 2 by (31 - by)) ∙ ap (λ (n : ℕ). 2 ^ n) e in
     let b : 2 ^ (31 - by) ≤ 2 ^ 31 = at_most (2 ^ by) (2 ^ (31 - by)) (2 ^ 31) (pow_pos by) f in
     elim (cases_lt x (2 ^ 31)) [
-      inl low ↦ ap (λ (z : ℤ). cast_unsigned w32 (int_shr z by)) (signed_low x low) ∙ shifted_low x (2 ^ by) (2 ^ (31 - by)) (pow_pos by) f low b
-    | inr high ↦ ap (λ (z : ℤ). cast_unsigned w32 (int_shr z by)) (signed_high x high)
-        ∙ shifted_high x (2 ^ by) (2 ^ (31 - by)) (pow_pos by) f high lt (pow_pos (31 - by)) b ]
+      | inl low ↦ ap (λ (z : ℤ). cast_unsigned w32 (int_shr z by)) (signed_low x low) ∙ shifted_low x (2 ^ by) (2 ^ (31 - by)) (pow_pos by) f low b
+      | inr high ↦ ap (λ (z : ℤ). cast_unsigned w32 (int_shr z by)) (signed_high x high)
+          ∙ shifted_high x (2 ^ by) (2 ^ (31 - by)) (pow_pos by) f high lt (pow_pos (31 - by)) b
+    ]
   where
     at_most : (m k n : ℕ) → 0 < m → m * k ≡ n → k ≤ n
     at_most zero k n p e = absurd (omega arith)

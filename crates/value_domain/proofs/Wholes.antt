@@ -1,65 +1,27 @@
 -- Exact ends modulo 2 ^ 32: what they hold, and that they rise.
-use Rattle.std.proofs.Common.{◌≡◌, ℕ, zero, suc, ◌<◌, ◌≤◌, ◌+◌, ◌-◌, ◌*◌, ◌/◌, ◌%◌, ◌^◌, Bool, true, false, ◌&&◌, cond, ltb, leb, eqb, refl, sym, ap, subst, ◌∙◌, arith, inl, inr}
+use Rattle.std.proofs.Common.{◌≡◌, ℕ, ◌<◌, ◌≤◌, ◌-◌, ◌/◌, ◌%◌, ◌^◌, true, eqb, refl, arith}
 use Rattle.std.specs.Int.{◌∣◌}
-use Rattle.std.proofs.lemmas.Bool.{cases_lt, lt-ltb, le-ltb, ltb-true, ltb-false, leb-true, leb-false, le-leb, lt-leb, eqb-true, eqb-false, eq-eqb, and_parts, and_from, cond_both}
-use Rattle.std.proofs.lemmas.Nat.Gcd.{dvd_refl, dvd-zero, dvd_trans, dvd_antisymm, le_of_dvd, dvd_of_mod-eq-zero, mod-eq-zero_of_dvd}
-use Rattle.std.proofs.Math.Nat.{dvd-add, dvd-sub, one-dvd}
+use Rattle.std.proofs.lemmas.Bool.{eqb-true, eqb-false, eq-eqb, cond_both}
+use Rattle.std.proofs.lemmas.Nat.Gcd.{dvd-zero, mod-eq-zero_of_dvd}
+use Rattle.std.proofs.Math.Nat.{one-dvd}
 use Rattle.value_domain.specs.Spans.{Span, IsStrided, IsWhole, Holds, everything, single, between}
-use Rattle.value_domain.specs.Order.{leq}
 use Rattle.value_domain.specs.Results.{wrapped}
-use Rattle.value_domain.proofs.CommonDivisors.{divides_from, from_divides}
+use Rattle.value_domain.specs.OrderLemmas.{Under, under_everything}
 
--- ---- the order of spans
-
-pub record Under (a b : Span) : Type 0 where
-  pub low : b.lo ≤ a.lo
-  pub high : a.hi ≤ b.hi
-  pub start : b.step ∣ (a.lo - b.lo)
-  pub step : b.step ∣ a.step
-
-pub under : (a b : Span) → leq a b ≡ true → Under a b
-under a b e =
-    let p = and_parts _ _ e in
-    let q = and_parts _ _ p.0 in
-    let r = and_parts _ _ q.0 in
-    record {
-      low = leb-true _ _ r.0;
-      high = leb-true _ _ r.1;
-      start = from_divides _ _ q.1;
-      step = from_divides _ _ p.1;
-    }
-
-pub from_under : (a b : Span) → Under a b → leq a b ≡ true
-from_under a b u =
-    and_from _ _ (and_from _ _ (and_from _ _ (le-leb _ _ u.low) (le-leb _ _ u.high)) (divides_from _ _ u.start)) (divides_from _ _ u.step)
-
-pub under_same : (a : Span) → Under a a
-under_same a =
-    let e : a.lo - a.lo ≡ 0 = omega arith in
-    record { low = omega arith; high = omega arith; start = rw e (dvd-zero _); step = dvd_refl _ }
-
--- Everything is above all.
-pub under_everything : (a : Span) → a.hi < 2 ^ 32 → Under a everything
-under_everything a top = record { low = omega arith; high = omega arith; start = one-dvd _; step = one-dvd _ }
+-- ---- above every number between two ends
 
 -- Every number between two ends is above what lies there.
 pub between_above : (a : Span) (lo hi : ℕ) → IsStrided a → lo ≤ a.lo → a.hi ≤ hi → Under a (between lo hi)
 between_above a lo hi p low high =
     cond_both (eqb lo hi) 0 1 (λ (step : ℕ). Under a (record { lo = lo; hi = hi; step = step }))
     (λ e.
-      let same = eqb-true lo hi e in
-      let l : a.lo - lo ≡ 0 = omega (arith, same, p.order) in
-      let s : a.step ≡ 0 = p.one (omega (arith, same, p.order)) in
-      record { low = low; high = high; start = rw l (dvd-zero 0); step = rw s (dvd-zero 0) })
+    let same = eqb-true lo hi e in
+    let l : a.lo - lo ≡ 0 = omega (arith, same, p.order) in
+    let s : a.step ≡ 0 = p.one (omega (arith, same, p.order)) in
+    record { low = low; high = high; start = rw l (dvd-zero 0); step = rw s (dvd-zero 0) })
     (λ _. record { low = low; high = high; start = one-dvd _; step = one-dvd _ })
 
 -- ---- what spans hold
-
-pub on_step : (s : Span) (n : ℕ) → Holds s n → s.step ∣ (n - s.lo)
-on_step s n h = dvd_of_mod-eq-zero s.step h.on
-
-pub step_whole : (s : Span) → IsStrided s → s.step ∣ (s.hi - s.lo)
-step_whole s p = dvd_of_mod-eq-zero s.step p.whole
 
 pub holds_everything : (n : ℕ) → n < 2 ^ 32 → Holds everything n
 holds_everything n lt = record { low = omega arith; high = omega arith; on = mod-eq-zero_of_dvd 1 (one-dvd _) }
@@ -74,9 +36,9 @@ pub holds_between : (lo hi n : ℕ) → lo ≤ n → n ≤ hi → Holds (between
 holds_between lo hi n low high =
     cond_both (eqb lo hi) 0 1 (λ (step : ℕ). Holds (record { lo = lo; hi = hi; step = step }) n)
     (λ e.
-      let same = eqb-true lo hi e in
-      let l : n - lo ≡ 0 = omega (arith, same) in
-      record { low = low; high = high; on = rw l refl })
+    let same = eqb-true lo hi e in
+    let l : n - lo ≡ 0 = omega (arith, same) in
+    record { low = low; high = high; on = rw l refl })
     (λ _. record { low = low; high = high; on = mod-eq-zero_of_dvd 1 (one-dvd _) })
 
 -- ---- spans in their one form
@@ -91,16 +53,10 @@ pub strided_between : (lo hi : ℕ) → lo ≤ hi → hi < 2 ^ 32 → IsStrided 
 strided_between lo hi le lt =
     cond_both (eqb lo hi) 0 1 (λ (step : ℕ). IsStrided (record { lo = lo; hi = hi; step = step }))
     (λ e.
-      let same = eqb-true lo hi e in
-      let l : hi - lo ≡ 0 = omega (arith, same) in
-      record { order = le; top = lt; whole = rw l refl; one = λ _. refl })
+    let same = eqb-true lo hi e in
+    let l : hi - lo ≡ 0 = omega (arith, same) in
+    record { order = le; top = lt; whole = rw l refl; one = λ _. refl })
     (λ e. record { order = le; top = lt; whole = mod-eq-zero_of_dvd 1 (one-dvd _); one = λ same. absurd (eqb-false lo hi e same) })
-
--- A step is at most the distance of the ends.
-pub step_fits : (lo hi step : ℕ) → lo ≤ hi → (hi - lo) % step ≡ 0 → (lo ≡ hi → step ≡ 0) → step ≤ hi - lo
-step_fits lo hi step order whole one = elim (cases_lt lo hi) [
-    inl lt ↦ let p : 0 < hi - lo = omega arith in le_of_dvd p (dvd_of_mod-eq-zero step whole)
-  | inr ge ↦ let e : lo ≡ hi = omega arith in omega (arith, one e) ]
 
 -- ---- exact ends modulo 2 ^ 32
 
@@ -109,14 +65,14 @@ unfolding wrapped
 strided_wrapped lo hi step p =
     cond_both (eqb (lo / 2 ^ 32) (hi / 2 ^ 32)) (record { lo = lo % 2 ^ 32; hi = hi % 2 ^ 32; step = step }) everything IsStrided
     (λ e.
-      let same = eqb-true _ _ e in
-      let d : hi % 2 ^ 32 - lo % 2 ^ 32 ≡ hi - lo = omega (arith, same, p.order) in
-      record {
-        order = omega (arith, same, p.order);
-        top = omega arith;
-        whole = rw d p.whole;
-        one = λ f. p.one (omega (arith, same, f, p.order));
-      })
+    let same = eqb-true _ _ e in
+    let d : hi % 2 ^ 32 - lo % 2 ^ 32 ≡ hi - lo = omega (arith, same, p.order) in
+    record {
+      order = omega (arith, same, p.order);
+      top = omega arith;
+      whole = rw d p.whole;
+      one = λ f. p.one (omega (arith, same, f, p.order));
+    })
     (λ _. strided_everything)
 
 pub holds_wrapped : (lo hi step n : ℕ) → lo ≤ n → n ≤ hi → step ∣ (n - lo) → Holds (wrapped lo hi step) (n % 2 ^ 32)
@@ -125,9 +81,9 @@ holds_wrapped lo hi step n low high on =
     cond_both (eqb (lo / 2 ^ 32) (hi / 2 ^ 32)) (record { lo = lo % 2 ^ 32; hi = hi % 2 ^ 32; step = step }) everything
     (λ (s : Span). Holds s (n % 2 ^ 32))
     (λ e.
-      let same = eqb-true _ _ e in
-      let d : n % 2 ^ 32 - lo % 2 ^ 32 ≡ n - lo = omega (arith, same) in
-      record { low = omega (arith, same); high = omega (arith, same); on = rw d (mod-eq-zero_of_dvd step on) })
+    let same = eqb-true _ _ e in
+    let d : n % 2 ^ 32 - lo % 2 ^ 32 ≡ n - lo = omega (arith, same) in
+    record { low = omega (arith, same); high = omega (arith, same); on = rw d (mod-eq-zero_of_dvd step on) })
     (λ _. holds_everything _ (omega arith))
 
 -- Exact ends within others are so modulo 2 ^ 32.
@@ -139,6 +95,7 @@ inner lo hi step low high stride p le ge start divs same =
     let e : eqb (lo / 2 ^ 32) (hi / 2 ^ 32) ≡ true = eq-eqb _ _ (omega (arith, p.order)) in
     let d : lo % 2 ^ 32 - low % 2 ^ 32 ≡ lo - low = omega (arith, p.order) in
     rw e (record { low = omega (arith, p.order); high = omega (arith, p.order); start = rw d start; step = divs })
+
 pub wrapped_rises : (lo hi step low high stride : ℕ) → IsWhole lo hi step → low ≤ lo → hi ≤ high
     → stride ∣ (lo - low) → stride ∣ step → Under (wrapped lo hi step) (wrapped low high stride)
 unfolding wrapped

@@ -1,5 +1,5 @@
 -- Spans: numbers that rise by one step from a first to a last one, and what they hold.
-use Rattle.std.specs.Prelude.{◌≡◌, ℕ, ◌<◌, ◌≤◌, ◌-◌, ◌%◌, ◌^◌, ◌==◌, ◌&&◌, Bool, nat_le, if◌then◌else◌}
+use Rattle.std.specs.Prelude.{◌≡◌, ℕ, ◌<◌, ◌≤◌, ◌+◌, ◌-◌, ◌%◌, ◌^◌, ◌==◌, ◌&&◌, Bool, nat_le, nat_lt, if◌then◌else◌}
 
 pub record Span : Type 0 where
   pub lo : ℕ
@@ -25,6 +25,15 @@ pub record Holds (s : Span) (n : ℕ) : Type 0 where
   pub low : s.lo ≤ n
   pub high : n ≤ s.hi
   pub on : (n - s.lo) % s.step ≡ 0
+
+-- The least held number from another number on, in a span that goes that far: it differs from the greatest one by
+-- a multiple of the step.
+abbrev pub next_held : Span → ℕ → ℕ
+next_held s from = if nat_le from s.lo then s.lo else from + (s.hi - from) % s.step
+
+-- Whether a held number lies from one number on before another one.
+unfoldable pub meets : Span → (from to : ℕ) → Bool
+meets s from to = nat_le from s.hi && nat_lt (next_held s from) to
 
 -- One number, and every number of 32 bits.
 abbrev pub single : ℕ → Span

@@ -1,6 +1,6 @@
 //! Common divisors.
 
-ghost use Rattle.std.specs.Prelude.{◌≡◌};
+ghost use Rattle.std.specs.Prelude.{◌≡◌, ◌≤◌, ◌%◌};
 ghost use Rattle.value_domain.specs.Divisors.{divides, gcd};
 
 /// Whether a step divides a number. Only 0 is a multiple of 0.
@@ -13,6 +13,17 @@ pub fn divides(step: u32, n: u32) -> bool
     n % step == 0
 }
 
+/// The rest of a number by a step; by 0 it is the number.
+pub fn rest(n: u64, step: u32) -> u64
+    ensures value { result ≡ n % step }
+    ensures bound { result ≤ n }
+{
+    if step == 0 {
+        return n;
+    }
+    n % u64::from(step)
+}
+
 /// The greatest common divisor, in at most about fifty steps (Euclid's algorithm: Knuth 1997, volume 2, 4.5.2).
 pub fn gcd(a: u32, b: u32) -> u32
     ensures { result ≡ gcd a b }
@@ -20,9 +31,9 @@ pub fn gcd(a: u32, b: u32) -> u32
     let mut x = a;
     let mut y = b;
     while y != 0 {
-        let rest = x % y;
+        let left = x % y;
         x = y;
-        y = rest;
+        y = left;
     }
     x
 }

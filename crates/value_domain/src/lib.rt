@@ -4,9 +4,12 @@
 mod bits;
 mod comparisons;
 mod divisors;
+mod lattice;
 mod operations;
 mod shifts;
 mod strided;
 mod sums;
+#[cfg(test)]
+mod tests;
 
 pub use strided::Strided;

@@ -42,7 +42,10 @@ fn right_signed(a: &Strided, by: u32) -> Strided
     ensures { result ≡ shifted_signed a.now by }
 {
     let shifted = right(&turned(a), by);
-    sum(&shifted, &Strided::one(0u32.wrapping_sub(0x8000_0000 >> by)))
+    sum(
+        &shifted,
+        &Strided::one(0u32.wrapping_sub(0x8000_0000 >> by)),
+    )
 }
 
 /// The numbers shifted by fewer than 32 bits.

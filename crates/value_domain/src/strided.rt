@@ -1,11 +1,11 @@
 //! Numbers that rise by one step.
 
-use crate::divisors::divides;
+use crate::divisors::{divides, rest};
 use std::marker::Model;
 
 /// The numbers lo, lo + step and so on, up to hi, all of 32 bits. The step is 0 exactly where lo is hi, else it
 /// divides hi - lo, so that equal values hold equal numbers. (Strided intervals: Reps and Balakrishnan 2008.)
-#[derive(Clone, Copy, Debug)]
+#[derive(Clone, Copy, Debug, PartialEq, Eq)]
 pub struct Strided {
     lo: u32,
     hi: u32,
@@ -24,14 +24,17 @@ impl Model for Strided {
     ghost inverse = { λ n. record { lo = n.lo; hi = n.hi; step = n.step } };
 }
 
-ghost use Rattle.std.specs.Prelude.{◌≡◌, ◌↔◌, ◌≤◌, ◌<◌, ◌/◌, ◌%◌, ◌^◌, true};
-ghost use Rattle.value_domain.specs.Spans.{Holds, IsStrided, IsWhole, between, everything, is_single, single};
+ghost use Rattle.std.specs.Prelude.{◌≡◌, ◌↔◌, ◌≤◌, ◌<◌, ◌/◌, ◌%◌, ◌^◌, ℕ, true};
+ghost use Rattle.domain_laws.specs.Laws.{IsCeiling};
+ghost use Rattle.value_domain.specs.Order.{leq, widened};
+ghost use Rattle.value_domain.specs.Spans.{Holds, IsStrided, IsWhole, between, everything, is_single, meets, single};
 ghost use Rattle.value_domain.specs.Results.{inverted, wrapped};
 
 impl Strided {
-    /// One number.
+    /// One number. Values under it widen to it.
     pub fn one(n: u32) -> Strided
-        ensures { result ≡ single n }
+        ensures value { result ≡ single n }
+        ensures ceiling { IsCeiling IsStrided leq widened result }
     {
         Strided {
             lo: n,
@@ -40,15 +43,24 @@ impl Strided {
         }
     }
 
-    /// Every number.
+    /// Every number. No value widens past it.
     pub fn all() -> Strided
-        ensures { result ≡ everything }
+        ensures value { result ≡ everything }
+        ensures ceiling { IsCeiling IsStrided leq widened result }
     {
         Strided {
             lo: 0,
             hi: 0xffff_ffff,
             step: 1,
         }
+    }
+
+    /// The numbers from one to another by a step.
+    pub fn spaced(lo: u32, hi: u32, step: u32) -> Strided
+        requires { IsStrided (record { lo = lo; hi = hi; step = step }) }
+        ensures { result ≡ record { lo = lo; hi = hi; step = step } }
+    {
+        Strided { lo, hi, step }
     }
 
     /// Every number between two ends.
@@ -98,6 +110,30 @@ impl Strided {
             return false;
         }
         divides(self.step, n - self.lo)
+    }
+
+    /// Whether the least held number from one number on is before another one.
+    #[tactic(auto, unfolding(crate::specs::Spans::meets))]
+    fn is_met(&self, from: u64, to: u64) -> bool
+        ensures { result ≡ meets self.now from to }
+    {
+        let (lo, hi) = (u64::from(self.lo), u64::from(self.hi));
+        if hi < from {
+            return false;
+        }
+        if from <= lo {
+            return lo < to;
+        }
+        from + rest(hi - from, self.step) < to
+    }
+
+    /// Whether a held number lies from one number on before another one.
+    pub fn meets(&self, from: u64, to: u64) -> bool
+        ensures value { result ≡ meets self.now from to }
+        ensures numbers { (result ≡ true) ↔ ((n : ℕ) × Holds self.now n × (from ≤ n) × (n < to)) }
+    {
+        let _shape = self.step();
+        self.is_met(from, to)
     }
 
     /// Exact numbers modulo 2^32.

@@ -1,10 +1,21 @@
 //! Sums and differences modulo 2^32.
 
 ghost use Rattle.std.specs.Prelude.{◌≡◌};
+ghost use Rattle.value_domain.specs.Divisors.{gcd};
 ghost use Rattle.value_domain.specs.Results.{added, taken_from, turned};
+ghost use Rattle.value_domain.specs.Spans.{IsStrided};
 
 use crate::divisors::gcd;
 use crate::strided::Strided;
+
+/// The step of sums and differences.
+fn common_step(a: &Strided, b: &Strided) -> u32
+    ensures value { result ≡ gcd a.now.step b.now.step }
+    ensures left { IsStrided a.now }
+    ensures right { IsStrided b.now }
+{
+    gcd(a.step(), b.step())
+}
 
 /// The sums.
 #[tactic(auto, unfolding(crate::specs::Results::added))]
@@ -13,7 +24,7 @@ pub fn sum(a: &Strided, b: &Strided) -> Strided
 {
     let lo = u64::from(a.lo()) + u64::from(b.lo());
     let hi = u64::from(a.hi()) + u64::from(b.hi());
-    let step = gcd(a.step(), b.step());
+    let step = common_step(a, b);
     Strided::wrapped(lo, hi, u64::from(step))
 }
 
@@ -24,7 +35,7 @@ pub fn difference(a: &Strided, b: &Strided) -> Strided
 {
     let lo = u64::from(a.lo()) + (0x1_0000_0000 - u64::from(b.hi()));
     let hi = u64::from(a.hi()) + (0x1_0000_0000 - u64::from(b.lo()));
-    let step = gcd(a.step(), b.step());
+    let step = common_step(a, b);
     Strided::wrapped(lo, hi, u64::from(step))
 }
 

@@ -1,7 +1,7 @@
 -- Euclid's steps come to the greatest common divisor.
 use Rattle.std.proofs.Common.{arith}
 use Rattle.std.proofs.lemmas.Nat.Gcd.{IsGcd-from_zero, IsGcd-from_mod, same_from_IsGcd}
-use Rattle.value_domain.proofs.CommonDivisors.{gcd-is}
+use Rattle.value_domain.specs.DivisorLemmas.{gcd-is}
 use Rattle.value_domain.proofs.divisors.gcd.Goals as goal
 
 pub loop-y-preserved : goal.loop-y-preserved

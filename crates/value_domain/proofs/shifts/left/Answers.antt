@@ -1,5 +1,5 @@
 -- The ends and the step, scaled.
-use Rattle.std.proofs.Common.{◌≡◌, ◌*◌, ◌%◌, ◌^◌, arith, refl}
+use Rattle.std.proofs.Common.{◌≡◌, ◌*◌, ◌%◌, ◌^◌, arith}
 use Rattle.std.proofs.lemmas.Nat.{one_shl, pow_pos}
 use Rattle.value_domain.proofs.ShiftedSpans.{whole_scaled}
 use Rattle.value_domain.proofs.shifts.left.Goals as goal

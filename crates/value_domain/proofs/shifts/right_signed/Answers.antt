@@ -10,4 +10,4 @@ unfolding shifted_signed
 returns c =
     let t = top_shifted c.args.by c.requires in
     let e : (0 + (2 ^ 32 - 2 ^ 31 / 2 ^ c.args.by)) % 2 ^ 32 ≡ 2 ^ 32 - 2 ^ (31 - c.args.by) = omega (arith, t, pow_pos (31 - c.args.by)) in
-    rw (c.sum.ensures, c.right-shifted.ensures, c.turned.ensures, c.one.ensures, e) refl
+    rw (c.sum.ensures, c.right-shifted.ensures, c.turned.ensures, c.one.ensures.value, e) refl

@@ -1,6 +1,6 @@
 -- What the span of an operation on an immediate holds, and that it rises.
-use Rattle.std.proofs.Common.{◌≡◌, ℕ, ◌<◌, ◌^◌, ap, ◌∙◌, arith}
-use Rattle.value_domain.specs.Spans.{Span, single}
+use Rattle.std.proofs.Common.{◌<◌, ◌^◌, ap, ◌∙◌, arith}
+use Rattle.value_domain.specs.Spans.{Span}
 use Rattle.value_domain.specs.Results.{imm_span}
 use Rattle.value_domain.proofs.ResultSpans.{imm_holds, imm_single, imm_rises, imm_strided, single_small}
 use Rattle.value_domain.proofs.strided.Strided.imm.Goals as goal

@@ -1,5 +1,5 @@
 -- The bits of both ends turned over.
-use Rattle.std.proofs.Common.{refl, ap, ◌∙◌}
+use Rattle.std.proofs.Common.{ap}
 use Rattle.value_domain.specs.Results.{inverted}
 use Rattle.value_domain.proofs.strided.Strided.inverted.Goals as goal
 

@@ -1,6 +1,6 @@
 -- What the span of a shift holds, and that it rises.
-use Rattle.std.proofs.Common.{◌≡◌, ℕ, ap, ◌∙◌, arith}
-use Rattle.value_domain.specs.Spans.{Span, single}
+use Rattle.std.proofs.Common.{ap, ◌∙◌}
+use Rattle.value_domain.specs.Spans.{Span}
 use Rattle.value_domain.specs.Results.{shift_span}
 use Rattle.value_domain.proofs.ResultSpans.{shift_holds, shift_single, shift_rises, shift_strided, single_small}
 use Rattle.value_domain.proofs.strided.Strided.shift.Goals as goal

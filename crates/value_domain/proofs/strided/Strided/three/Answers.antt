@@ -1,7 +1,6 @@
 -- What the span of an operation on two values holds, and that it rises.
-use Rattle.std.proofs.Common.{◌≡◌, ℕ, Option, Some, ◌<◌, ◌≤◌, ◌^◌, sym, ap, ap₂, subst, ◌∙◌, arith, true}
-use Rattle.value_domain.specs.Spans.{Span, IsStrided, Holds, single}
-use Rattle.value_domain.specs.Order.{leq}
+use Rattle.std.proofs.Common.{ap, ◌∙◌}
+use Rattle.value_domain.specs.Spans.{Span, single}
 use Rattle.value_domain.specs.Results.{three_span}
 use Rattle.value_domain.proofs.ResultSpans.{three_holds, three_single, three_rises, three_strided, single_small}
 use Rattle.value_domain.proofs.strided.Strided.three.Goals as goal

@@ -2,7 +2,7 @@
 use Rattle.std.proofs.Common.{◌≡◌, ◌≤◌, ◌/◌, ◌^◌, ◌-◌, true, false, eqb, arith, refl}
 use Rattle.std.proofs.lemmas.Bool.{eq-eqb, ne_eqb}
 use Rattle.value_domain.specs.Results.{wrapped}
-use Rattle.value_domain.proofs.Wholes.{step_fits}
+use Rattle.value_domain.specs.OrderLemmas.{step_fits}
 use Rattle.value_domain.proofs.strided.Strided.wrapped.Goals as goal
 
 pub overflow_cast-result-then-lo-hi-2 : goal.overflow_cast-result-then-lo-hi-2
@@ -21,4 +21,4 @@ pub returns : goal.returns
 unfolding wrapped
 returns c =
     let e : eqb (c.args.lo / 2 ^ 32) (c.args.hi / 2 ^ 32) ≡ false = ne_eqb _ _ c.if-lo-hi.false in
-    rw e c.all.ensures
+    rw e c.all.ensures.value

@@ -1,8 +1,8 @@
 -- The greatest common divisor divides both, and each common divisor divides it.
-use Rattle.std.proofs.Common.{◌≡◌, ℕ, zero, suc, ◌<◌, ◌≤◌, ◌+◌, ◌%◌, ◌&&◌, Bool, true, false, cond, eqb, max, refl, sym, ap, subst, ◌∙◌, arith, inl, inr, ◌⊎◌}
+use Rattle.std.proofs.Common.{◌≡◌, ℕ, zero, suc, ◌<◌, ◌≤◌, ◌+◌, ◌%◌, ◌&&◌, Bool, true, false, cond, max, refl, sym, subst, ◌∙◌, arith, inl, inr}
 use Rattle.std.specs.Int.{IsGcd, ◌∣◌}
-use Rattle.std.proofs.lemmas.Nat.Gcd.{IsGcd-from_zero, IsGcd-from_mod, le_of_dvd, dvd_of_mod-eq-zero, mod-eq-zero_of_dvd, dvd-zero}
-use Rattle.std.proofs.lemmas.Bool.{cases_lt, cases_Bool, and_parts, and_from, eqb-true, eq-eqb, true≢false}
+use Rattle.std.proofs.lemmas.Nat.Gcd.{IsGcd-from_zero, IsGcd-from_mod, le_of_dvd, dvd_of_mod-eq-zero, mod-eq-zero_of_dvd}
+use Rattle.std.proofs.lemmas.Bool.{cases_lt, and_parts, and_from, eqb-true, eq-eqb, true≢false}
 use Rattle.value_domain.specs.Divisors.{divides, common_divisor, gcd}
 
 pub divides_from : (step n : ℕ) → step ∣ n → divides step n ≡ true
@@ -32,10 +32,11 @@ step_from true limit a b g h p le e before =
     let l : suc limit ≤ g = le_of_dvd p d in
     omega arith
 step_from false limit a b g h p le e before = elim (cases_lt limit g) [
-    inl lt ↦
-        let same : suc limit ≡ g = omega arith in
-        absurd (true≢false (sym (subst (λ (n : ℕ). (divides n a && divides n b) ≡ true) (sym same) (both_divide a b g h)) ∙ e))
-  | inr ge ↦ before ge ]
+  | inl lt ↦
+      let same : suc limit ≡ g = omega arith in
+      absurd (true≢false (sym (subst (λ (n : ℕ). (divides n a && divides n b) ≡ true) (sym same) (both_divide a b g h)) ∙ e))
+  | inr ge ↦ before ge
+]
 
 found_from : (limit a b g : ℕ) → IsGcd a b g → 0 < g → g ≤ limit → common_divisor limit a b ≡ g
 found_from zero a b g h p le = absurd (omega arith)
@@ -51,20 +52,26 @@ positive_divisor a b (suc g) h p = omega arith
 
 within : (a b g : ℕ) → IsGcd a b g → 0 < max a b → g ≤ max a b
 within a b g h p = elim (cases_lt 0 a) [
-    inl lt ↦ let l : g ≤ a = le_of_dvd lt h.0 in omega arith
+  | inl lt ↦ let l : g ≤ a = le_of_dvd lt h.0 in omega arith
   | inr ge ↦
-        let q : 0 < b = omega arith in
-        let l : g ≤ b = le_of_dvd q h.1 in
-        omega arith ]
+      let q : 0 < b = omega arith in
+      let l : g ≤ b = le_of_dvd q h.1 in
+      omega arith
+]
 
 pub gcd-is : (a b : ℕ) → IsGcd a b (gcd a b)
 unfolding gcd
 gcd-is a b = elim (cases_lt 0 (max a b)) [
-    inl lt ↦
-        let e = euclid (b + 1) a b (omega arith) in
-        let same = found_from (max a b) a b e.0 e.1 (positive_divisor a b e.0 e.1 lt) (within a b e.0 e.1 lt) in
-        subst (λ (n : ℕ). IsGcd a b n) (sym same) e.1
+  | inl lt ↦
+      let e = euclid (b + 1) a b (omega arith) in
+      let same = found_from (max a b) a b e.0 e.1 (positive_divisor a b e.0 e.1 lt) (within a b e.0 e.1 lt) in
+      subst (λ (n : ℕ). IsGcd a b n) (sym same) e.1
   | inr ge ↦
-        let p : a ≡ 0 = omega arith in
-        let q : b ≡ 0 = omega arith in
-        rw (p, q) (IsGcd-from_zero 0 0 refl) ]
+      let p : a ≡ 0 = omega arith in
+      let q : b ≡ 0 = omega arith in
+      rw (p, q) (IsGcd-from_zero 0 0 refl)
+]
+
+pub no_step : gcd 0 0 ≡ 0
+unfolding gcd
+no_step = refl
