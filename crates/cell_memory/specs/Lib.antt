@@ -1,0 +1,5 @@
+pub mod Words
+pub mod Stores
+pub mod Meaning
+pub mod Rises
+pub mod WordLaws

@@ -1,0 +1,8 @@
+-- The sums of the ends.
+use Rattle.value_domain.proofs.AddedSpans.{whole_of, whole_sum}
+use Rattle.value_domain.proofs.sums.sum.Goals as goal
+
+pub wrapped-requires : goal.wrapped-requires
+wrapped-requires c =
+    rw (c.from.ensures, c.from-2.ensures, c.from-3.ensures, c.from-4.ensures, c.from-5.ensures, c.common_step-step.ensures.value, c.lo.ensures.value, c.lo-2.ensures.value, c.hi.ensures, c.hi-2.ensures)
+    (whole_sum c.args.a.now c.args.b.now (whole_of c.args.a.now c.common_step-step.ensures.left) (whole_of c.args.b.now c.common_step-step.ensures.right))
