@@ -1,9 +1,7 @@
 -- Each turn comes to the next scope outward.
-use Rattle.std.specs.Prelude.{◌≡◌, ℕ, ◌+◌, ◌-◌, ◌^◌, ◌≤◌, min, length, List}
-use Rattle.std.proofs.Common.{arith, get_or}
+use Rattle.std.specs.Prelude.{◌-◌, ◌≤◌}
+use Rattle.std.proofs.Common.{arith}
 use Rattle.std.proofs.lemmas.Bool.Decides.{nat_tests}
-use Rattle.flow_net.specs.Numbers.{IsNumberOf}
-use Rattle.flow_net.specs.declared.net.LoopInst.{LoopInst}
 use Rattle.flow_net.proofs.Chains.{around-outward}
 use Rattle.flow_net.proofs.Numbers.{item_at-there}
 use Rattle.net_tables.proofs.Counting.{counting_begins, counting_ends, counting_goes}

@@ -1,7 +1,7 @@
 -- The lists begin empty, and each number goes to the list of its key.
 use Rattle.std.proofs.Common.{arith, subst, sym}
 use Rattle.net_tables.specs.Numbers.{AreNumbers}
-use Rattle.std.specs.Prelude.{ℕ, [], List}
+use Rattle.std.specs.Prelude.{[]}
 use Rattle.net_tables.proofs.Numbering.{all_numbers, next_number, none_yet}
 use Rattle.net_tables.proofs.numbers.number_lists.Goals as goal
 

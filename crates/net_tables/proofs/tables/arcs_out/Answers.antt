@@ -1,5 +1,5 @@
 -- The numbers are those of places, or 0.
-use Rattle.std.specs.Prelude.{◌≡◌, ℕ, ◌≤◌, List, All, length}
+use Rattle.std.specs.Prelude.{ℕ, ◌≤◌, List, All, length}
 use Rattle.std.proofs.Common.{◌∙◌, ap, subst, sym}
 use Rattle.std.proofs.lemmas.List.Elements.{All-map}
 use Rattle.flow_net.specs.declared.net.NetArc.{NetArc}
