@@ -2,6 +2,7 @@
 pub mod CoveredWords
 pub mod FilteredWords
 pub mod RisenWords
+pub mod RisingStores
 pub mod StoredWords
 pub mod LoadedWords
 pub mod MemoryWords

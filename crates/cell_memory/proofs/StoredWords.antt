@@ -264,7 +264,7 @@ unchanged stretches address size word value words p a never =
     word_kept stretches address size word value words p
     (false_from_ne_true (may_change stretches address size word) (λ e. never (changes stretches address size word a e)))
 
-stored_word : (stretches : List Stretch) (address : Span) (size word : ℕ) (value : Span) → is_word_store stretches address size value ≡ true
+pub stored_word : (stretches : List Stretch) (address : Span) (size word : ℕ) (value : Span) → is_word_store stretches address size value ≡ true
     → word ≡ address.lo → IsStoredWord address size word
 stored_word stretches address size word value t e =
     let s = word_store stretches address size value t in

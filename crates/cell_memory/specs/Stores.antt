@@ -57,7 +57,8 @@ is_word_store stretches address size value =
     && may_change stretches address size address.lo
 
 -- Every word that the store may change is forgotten, and the word of one aligned word store is known.
-unfoldable pub stored : List Stretch → (address : Span) → (size : ℕ) → (value : Span) → List (ℕ × Span) → List (ℕ × Span)
+unfoldable pub stored : List Stretch → (address : Span) → (size : ℕ) → (value : Span) → List (ℕ × Span) →
+    List (ℕ × Span)
 stored stretches address size value words =
     if is_word_store stretches address size value
     then kept_between stretches address size 0 address.lo words

@@ -22,7 +22,7 @@ everything_is x e =
     fields : (x : Span) → x.lo ≡ 0 → x.hi ≡ 4294967295 → x.step ≡ 1 → x ≡ everything
     fields x e f g = rw (e, f, g) refl
 
-above_everything : (x z : Span) → IsStrided z → is_everything x ≡ true → leq x z ≡ true → is_everything z ≡ true
+pub above_everything : (x z : Span) → IsStrided z → is_everything x ≡ true → leq x z ≡ true → is_everything z ≡ true
 above_everything x z p e h =
     let f = everything_is x e in
     let u = under everything z (subst (λ (s : Span). leq s z ≡ true) f h) in

@@ -119,6 +119,10 @@ impl Cells {
         ensures covers { OnOk result ((regions : List Region) (at number : ℕ) → Covers self.old regions →
             AreWritable writable.now regions → IsStore regions address.now size value.now at number →
             Covers self.new (regions_with (store_at at size) number regions)) }
+        ensures rises { OnOk result ((wider more : Span) (fewer : List (ℕ × Span)) → IsStrided wider → IsStrided more →
+            AreWords fewer → leq address.now wider ≡ true → leq value.now more ≡ true →
+            map_leq leq self.old fewer ≡ true →
+            map_leq leq self.new (stored writable.now wider size more fewer) ≡ true) }
         ensures err { OnErr result (self.new ≡ self.old) }
     {
         let _shape = (address.step(), value.step());

@@ -60,8 +60,8 @@ fn imm_span(op: ImmOp, a: &Strided, imm: u16) -> Strided
 }
 
 impl Strided {
-    /// What an operation on two registers makes of two values (MIPS R3000 family, section 3: the integer
-    /// instructions). Where it wraps for some held numbers alone, it answers every number. ADD and SUB answer as
+    /// What an operation on two registers makes of two values (MIPS I manual: arithmetic, logical operations, shifts
+    /// and comparisons). Where it wraps for some held numbers alone, it answers every number. ADD and SUB answer as
     /// ADDU and SUBU do, which holds each result that doesn't trap.
     pub fn three(op: Op3, a: &Strided, b: &Strided) -> Strided
         ensures value { result ≡ three_span op a.now b.now }

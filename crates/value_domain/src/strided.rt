@@ -166,7 +166,8 @@ impl Strided {
     pub(crate) fn scaled_down(&self, by: u32) -> Strided
         requires small { by < 32 }
         requires kept { self.now.step % 2 ^ by ≡ 0 }
-        ensures { result ≡ record { lo = self.now.lo / 2 ^ by; hi = self.now.hi / 2 ^ by; step = self.now.step / 2 ^ by } }
+        ensures { result
+            ≡ record { lo = self.now.lo / 2 ^ by; hi = self.now.hi / 2 ^ by; step = self.now.step / 2 ^ by } }
     {
         Strided {
             lo: self.lo >> by,

@@ -1,10 +1,13 @@
 -- Which words stay, are forgotten and are known after a store, and what they tell of memory.
-use Rattle.std.proofs.Common.{List, sym, ap, subst, ◌∙◌}
-use Rattle.domain_laws.specs.Maps.{value_at}
+use Rattle.std.proofs.Common.{◌≡◌, List, true, sym, ap, subst, ◌∙◌}
+use Rattle.domain_laws.specs.Maps.{map_leq, value_at}
 use Rattle.mips_decode.specs.Effect.{regions_with}
 use Rattle.cell_memory.specs.Meaning.{Covers, store_at}
 use Rattle.cell_memory.proofs.WordLists.{Word}
 use Rattle.cell_memory.proofs.StoredWords.{unchanged, forgotten, known_after}
+use Rattle.value_domain.specs.Order.{leq}
+use Rattle.cell_memory.specs.Stores.{stored}
+use Rattle.cell_memory.proofs.RisingStores.{stored_rises}
 use Rattle.cell_memory.proofs.CoveredWords.{covers_stored}
 use Rattle.cell_memory.proofs.cells.Cells.store.Goals as goal
 
@@ -28,3 +31,9 @@ returns-clause-covers c regions at number covers writable store =
     subst (λ (words : List Word). Covers words (regions_with (store_at at c.args.size) number regions)) (sym c.in_ok-change.ensures.value)
     (covers_stored c.args.writable.now c.args.address.now c.args.size c.args.value.now c.args.self.now regions at number
     c.change.ensures.words c.step.ensures.shape c.step-2.ensures.shape c.requires covers writable store)
+
+pub returns-clause-rises : goal.returns-clause-rises
+returns-clause-rises c wider more fewer q m f h k l =
+    subst (λ (words : List Word). map_leq leq words (stored c.args.writable.now wider c.args.size more fewer) ≡ true) (sym c.in_ok-change.ensures.value)
+    (stored_rises c.args.writable.now c.args.address.now wider c.args.size c.args.value.now more c.args.self.now fewer
+    c.change.ensures.words f c.step.ensures.shape q m h k l)
