@@ -1,5 +1,5 @@
 -- A turn of the solver, from what its spreading brings.
-use Rattle.std.specs.Prelude.{◌≡◌, ℕ, zero, suc, ◌+◌, ◌<◌, ◌≤◌, Bool, true, false, List, [], ◌∷◌, length, map, Option, None, Some, option_map, slice_get, slice_set, refl}
+use Rattle.std.specs.Prelude.{◌≡◌, ℕ, zero, suc, ◌+◌, ◌<◌, ◌≤◌, Bool, true, false, List, [], ◌∷◌, length, map, Option, None, Some, IfNone, option_map, slice_get, slice_set, refl}
 use Rattle.std.proofs.Common.{◌∙◌, ◌⊎◌, ap, arith, inl, inr, subst, sym}
 use Rattle.std.proofs.lemmas.List.{length-map}
 use Rattle.std.proofs.lemmas.Option.{none-some, same_Some, slice_get-map, slice_get_within}
@@ -92,3 +92,35 @@ module _ {D : Type 0} (P : D → Type 0) (leq : D → D → Bool) (joined widene
       (subst (λ (n : ℕ). test n x ≡ true) (sym from) (all place x there))))
       all)
       ok
+
+-- A slot that isn't empty has a state.
+pub record HasState {D : Type 0} (slot : Option D) : Type 0 where
+  pub state : D
+  pub there : slot ≡ Some state
+
+pub state_of : {D : Type 0} (slot : Option D) → (slot ≡ None → ⊥) → HasState slot
+state_of None some = absurd (some refl)
+state_of (Some x) some = record { state = x; there = refl }
+
+-- The number of an item that is there is one of the list.
+pub number_of : {T : Type 0} (items : List T) (number : ℕ) (item : T) → item_at number items ≡ Some item → IsNumberOf items number
+number_of items zero item at = absurd (none-some item at)
+number_of items (suc position) item at =
+    let inside = slice_get_within items position item at in
+    record { from_one = omega arith; within = omega (arith, inside) }
+
+-- The same spreading, told of equal things.
+pub spread_at : {D : Type 0} (P : D → Type 0) (leq : D → D → Bool) (widened : D → D → D) (rank : D → ℕ) (height : ℕ)
+    (moved : ℕ → D → D) (arcs : List NetArc) (values later : List (Option D)) (left : List Bool) (a b : D) (ns ms : List ℕ)
+    (k l : List Bool) → a ≡ b → ns ≡ ms → k ≡ l →
+    IsSpread P leq widened rank height moved arcs a ns [] values k later left →
+    IsSpread P leq widened rank height moved arcs b ms [] values l later left
+spread_at {D} P leq widened rank height moved arcs values later left a b ns ms k l e f h spread =
+    subst (λ (x : D). IsSpread P leq widened rank height moved arcs x ms [] values l later left) e
+    (subst (λ (xs : List ℕ). IsSpread P leq widened rank height moved arcs a xs [] values l later left) f
+    (subst (λ (bs : List Bool). IsSpread P leq widened rank height moved arcs a ns [] values bs later left) h spread))
+
+-- What a call tells where it gives nothing.
+pub none_told : {T : Type 0} (P : Type 0) (o : Option T) → ((x : T) → o ≡ Some x → ⊥) → IfNone o P → P
+none_told P None not_some told = told
+none_told P (Some x) not_some told = absurd (not_some x refl)

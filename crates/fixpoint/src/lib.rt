@@ -7,4 +7,5 @@ mod solving;
 mod table;
 mod waiting;
 
+pub use solving::solve;
 pub use table::Table;
