@@ -2,14 +2,17 @@
 use Rattle.std.specs.Prelude.{◌≡◌, ℕ, ◌<◌, ◌≤◌, Bool, true, false, List, [], ◌∷◌, length, Option, None, Some, refl}
 use Rattle.std.proofs.Common.{◌∙◌, ap, arith, subst, sym}
 use Rattle.std.proofs.lemmas.Bool.{false≢true}
-use Rattle.domain_laws.specs.Laws.{IsLatticeOn}
-use Rattle.domain_laws.specs.Options.{option_leq}
+use Rattle.domain_laws.specs.Laws.{IsLatticeOn, IsRankedOn, IsWideningOn}
+use Rattle.domain_laws.specs.Options.{option_ok, option_leq}
+use Rattle.std.proofs.lemmas.Option.{none-some, same_Some}
+use Rattle.fixpoint.specs.Coming.{Comes}
 use Rattle.flow_net.specs.Numbers.{item_at}
 use Rattle.flow_net.specs.Paths.{IsPath, IsRunPath}
 use Rattle.flow_net.specs.declared.net.NetArc.{NetArc}
 use Rattle.fixpoint.specs.Solved.{AreCeilings, IsClosed, IsKept, PassesFirst, Starts}
 use Rattle.fixpoint.specs.Values.{value_of, waits, Passes}
-use Rattle.fixpoint.specs.Steps.{Holds}
+use Rattle.fixpoint.specs.Steps.{Follows, Holds}
+use Rattle.fixpoint.proofs.Arriving.{comes_follows, comes_holds, comes_passes}
 
 above_some : {D : Type 0} (leq : D → D → Bool) (x : D) (z : Option D) → option_leq leq (Some x) z ≡ true → z ≡ None → ⊥
 above_some {D} leq x z h e =
@@ -81,3 +84,39 @@ module _ {D : Type 0} (P : D → Type 0) (leq : D → D → Bool) (widened : D �
         widens = λ q x y p r h k. (are.ceilings q).above x y p r h k;
       })
       (λ arc first. are.starts arc first)
+
+-- The start has come to the first place, and nothing else has happened.
+pub first_held : {D : Type 0} (P : D → Type 0) (leq : D → D → Bool) (joined widened : D → D → D) (rank : D → ℕ) (height : ℕ)
+    (stepped moved : ℕ → D → D) (arcs : List NetArc) (slots : ℕ) (start : D) (laws : IsLatticeOn P leq joined)
+    (ranks : IsRankedOn P leq rank height) (widens : IsWideningOn P leq widened)
+    (values : List (Option D)) (marks : List Bool) (later : List (Option D)) (left : List Bool) (arc : NetArc) →
+    length values ≡ slots → length marks ≡ length values → ((q : ℕ) → value_of values q ≡ None) →
+    ((q : ℕ) → waits marks q ≡ false) → item_at 1 arcs ≡ Some arc → 0 < arc.to → arc.to < slots → P start →
+    Comes leq widened arc.to start values marks later left →
+    Holds P leq widened stepped moved arcs slots start later left
+first_held {D} P leq joined widened rank height stepped moved arcs slots start laws ranks widens values marks later left arc
+    size sized blank unmarked first some inside ok comes = record {
+  size = follows.size ∙ size;
+  sizes = follows.sizes ∙ sized ∙ size;
+  shaped = follows.shaped;
+  queued = follows.there (λ q waited. absurd (false≢true (sym (unmarked q) ∙ waited)));
+  placed = follows.placed (λ q waited. absurd (false≢true (sym (unmarked q) ∙ waited)));
+  begun = λ other at. subst (λ (a : NetArc). option_leq leq (Some start) (value_of later a.to) ≡ true)
+      (same_Some arc other (sym first ∙ at)) holds;
+  settled = λ number other x at from to there none.
+      absurd (none-some x (sym (follows.same other.from none ∙ blank other.from) ∙ there));
+  tests = λ test kept passes. comes_passes P leq joined widened rank height laws ranks widens test kept.widens arc.to start
+      values marks later left shaped ok (omega (arith, inside, size)) comes (passes arc first)
+      (λ q x there. absurd (none-some x (sym (blank q) ∙ there)));
+}
+  where
+    shaped : (q : ℕ) → option_ok P (value_of values q)
+    shaped q = subst (option_ok P) (sym (blank q)) tt
+
+    follows : Follows P leq rank height values marks later left
+    follows = comes_follows P leq joined widened rank height laws ranks widens arc.to start values marks shaped ok
+        (omega (arith, inside, size)) sized some later left comes
+
+    holds : option_leq leq (Some start) (value_of later arc.to) ≡ true
+    holds = comes_holds P leq joined widened rank height laws ranks widens arc.to start values marks shaped ok
+        (omega (arith, inside, size)) sized some later left comes

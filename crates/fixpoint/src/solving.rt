@@ -7,6 +7,7 @@ ghost use Rattle.flow_net.specs.Scopes.{HasScopes};
 ghost use Rattle.fixpoint.specs.Solved.{AreCeilings, IsClosed, IsKept, IsServed, IsSolvable, PassesFirst, Starts};
 ghost use Rattle.fixpoint.specs.Values.{Passes, value_of, waits};
 ghost use Rattle.net_tables.specs.Numbers.{numbers_of};
+ghost use Rattle.net_tables.specs.Tables.{AreArcsOut};
 ghost use Rattle.fixpoint.specs.Steps.{Along, Holds, IsIn, IsSpread};
 
 use crate::going::come_to;
@@ -149,6 +150,34 @@ fn queue_depths(alloc: Global, net: &Net) -> Result<(Vec<u32>, u32), AllocError>
     Ok((depths, DEEPEST + 1))
 }
 
+/// The start comes to the first place of the net, and the places settle.
+fn fill<D: Widen, T: Transfer<D>>(
+    net: &Net,
+    out: &[List<u32>],
+    transfer: &T,
+    start: D,
+    values: &mut [Option<D>],
+    waiting: &mut Waiting,
+) -> Result<(), AllocError>
+    requires net { IsSolvable net.now }
+    requires served { IsServed net.now (T.serves_place transfer.now) (T.serves_arc transfer.now) }
+    requires shaped { D.has start (T.shape transfer.now) }
+    requires out { AreArcsOut net.now out.now }
+    requires slots { length values.old ≡ length net.now.places + 1 }
+    requires blank { (place : ℕ) → value_of values.old place ≡ None }
+    requires sized { length waiting.old ≡ length values.old }
+    requires unmarked { (place : ℕ) → waits waiting.old place ≡ false }
+    ensures size { OnOk result (length values.new ≡ length values.old) }
+    ensures none { OnOk result ((place : ℕ) → waits waiting.new place ≡ false) }
+    ensures holds { OnOk result (Holds (λ x. D.has x (T.shape transfer.now)) D.leq D.widened (T.stepped transfer.now)
+        (T.moved transfer.now) net.now.arcs (length net.now.places + 1) start values.new waiting.new) }
+{
+    let arcs = net.arcs.as_slice();
+    come_to(values, waiting, arcs[0].to, start)?;
+    run(arcs, out, transfer, values, waiting)?;
+    Ok(())
+}
+
 /// The states before the places of a net: a table that is closed along its arcs and no higher than it must be.
 ///
 /// It takes memory for the table, the index of leaving arcs and the queue, which are made once; after that memory is taken by
@@ -177,12 +206,10 @@ pub fn solve<D: Widen, T: Transfer<D>>(
         net.now.arcs start.now ceiling
         → (place : ℕ) (x : D) → value_of t place ≡ Some x → D.leq x (ceiling place) ≡ true) }
 {
-    let arcs = net.arcs.as_slice();
     let out = arcs_out(alloc, net)?;
     let (depths, lists) = queue_depths(alloc, net)?;
     let mut waiting = Waiting::new(alloc, depths, lists)?;
     let mut values = blank(alloc, net.places.as_slice().len() + 1)?;
-    come_to(&mut values, &mut waiting, arcs[0].to, start.copy()?)?;
-    run(arcs, &out, transfer, &mut values, &mut waiting)?;
+    fill(net, &out, transfer, start.copy()?, &mut values, &mut waiting)?;
     Ok(Table::of(values))
 }
