@@ -1,14 +1,14 @@
 -- What becomes of a table and of the waiting places when a state comes to a place.
-use Rattle.std.specs.Prelude.{◌≡◌, ℕ, ◌+◌, ◌*◌, ◌<◌, ◌≤◌, Bool, true, false, not, if◌then◌else◌, List, length, Option, None, Some, slice_set, refl}
+use Rattle.std.specs.Prelude.{◌≡◌, ℕ, ◌<◌, Bool, true, false, not, if◌then◌else◌, List, length, Option, None, Some, slice_set, refl}
 use Rattle.std.proofs.Common.{◌∙◌, ap, arith, inl, inr, subst, sym}
 use Rattle.std.proofs.lemmas.Bool.{cases_Bool, cases_eq, false≢true}
 use Rattle.std.proofs.lemmas.List.{length-set}
 use Rattle.std.proofs.lemmas.Option.{none-some, same_Some}
 use Rattle.domain_laws.specs.Laws.{IsLatticeOn, IsRankedOn, IsWideningOn}
-use Rattle.domain_laws.specs.Options.{option_ok, option_leq, option_joined, option_rank, option_lattice_on, option_ranked_on, option_widening_on}
+use Rattle.domain_laws.specs.Options.{option_ok, option_leq, option_joined, option_lattice_on, option_ranked_on, option_widening_on}
 use Rattle.fixpoint.specs.Coming.{Comes}
 use Rattle.fixpoint.specs.Values.{value_of, waits, Passes}
-use Rattle.fixpoint.specs.Steps.{Follows, ranks_of, waiting}
+use Rattle.fixpoint.specs.Steps.{Follows}
 use Rattle.fixpoint.proofs.Slots.{value_set_same, value_set_other, value_set_own, waits_set_same, waits_set_other, waiting_more, ranks_fall}
 
 no_slot : {D : Type 0} (widened : D → D → D) (old : Option D) (x : D) → option_joined widened old (Some x) ≡ None → ⊥

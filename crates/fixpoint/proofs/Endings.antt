@@ -1,5 +1,5 @@
 -- What holds of the table when no place waits.
-use Rattle.std.specs.Prelude.{◌≡◌, ℕ, ◌<◌, ◌≤◌, Bool, true, false, List, [], ◌∷◌, length, Option, None, Some, refl}
+use Rattle.std.specs.Prelude.{◌≡◌, ℕ, ◌<◌, Bool, true, false, List, [], ◌∷◌, length, Option, None, Some, refl}
 use Rattle.std.proofs.Common.{◌∙◌, ap, arith, subst, sym}
 use Rattle.std.proofs.lemmas.Bool.{false≢true}
 use Rattle.domain_laws.specs.Laws.{IsLatticeOn, IsRankedOn, IsWideningOn}
@@ -9,8 +9,8 @@ use Rattle.fixpoint.specs.Coming.{Comes}
 use Rattle.flow_net.specs.Numbers.{item_at}
 use Rattle.flow_net.specs.Paths.{IsPath, IsRunPath}
 use Rattle.flow_net.specs.declared.net.NetArc.{NetArc}
-use Rattle.fixpoint.specs.Solved.{AreCeilings, IsClosed, IsKept, PassesFirst, Starts}
-use Rattle.fixpoint.specs.Values.{value_of, waits, Passes}
+use Rattle.fixpoint.specs.Solved.{AreCeilings, IsClosed, Starts}
+use Rattle.fixpoint.specs.Values.{value_of, waits}
 use Rattle.fixpoint.specs.Steps.{Follows, Holds}
 use Rattle.fixpoint.proofs.Arriving.{comes_follows, comes_holds, comes_passes}
 
@@ -96,19 +96,19 @@ pub first_held : {D : Type 0} (P : D → Type 0) (leq : D → D → Bool) (joine
     Holds P leq widened stepped moved arcs slots start later left
 first_held {D} P leq joined widened rank height stepped moved arcs slots start laws ranks widens values marks later left arc
     size sized blank unmarked first some inside ok comes = record {
-  size = follows.size ∙ size;
-  sizes = follows.sizes ∙ sized ∙ size;
-  shaped = follows.shaped;
-  queued = follows.there (λ q waited. absurd (false≢true (sym (unmarked q) ∙ waited)));
-  placed = follows.placed (λ q waited. absurd (false≢true (sym (unmarked q) ∙ waited)));
-  begun = λ other at. subst (λ (a : NetArc). option_leq leq (Some start) (value_of later a.to) ≡ true)
-      (same_Some arc other (sym first ∙ at)) holds;
-  settled = λ number other x at from to there none.
-      absurd (none-some x (sym (follows.same other.from none ∙ blank other.from) ∙ there));
-  tests = λ test kept passes. comes_passes P leq joined widened rank height laws ranks widens test kept.widens arc.to start
-      values marks later left shaped ok (omega (arith, inside, size)) comes (passes arc first)
-      (λ q x there. absurd (none-some x (sym (blank q) ∙ there)));
-}
+      size = follows.size ∙ size;
+      sizes = follows.sizes ∙ sized ∙ size;
+      shaped = follows.shaped;
+      queued = follows.there (λ q waited. absurd (false≢true (sym (unmarked q) ∙ waited)));
+      placed = follows.placed (λ q waited. absurd (false≢true (sym (unmarked q) ∙ waited)));
+      begun = λ other at. subst (λ (a : NetArc). option_leq leq (Some start) (value_of later a.to) ≡ true)
+          (same_Some arc other (sym first ∙ at)) holds;
+      settled = λ number other x at from to there none.
+          absurd (none-some x (sym (follows.same other.from none ∙ blank other.from) ∙ there));
+      tests = λ test kept passes. comes_passes P leq joined widened rank height laws ranks widens test kept.widens arc.to start
+          values marks later left shaped ok (omega (arith, inside, size)) comes (passes arc first)
+          (λ q x there. absurd (none-some x (sym (blank q) ∙ there)));
+    }
   where
     shaped : (q : ℕ) → option_ok P (value_of values q)
     shaped q = subst (option_ok P) (sym (blank q)) tt

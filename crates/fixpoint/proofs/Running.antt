@@ -1,6 +1,6 @@
 -- A turn of the solver, from what its spreading brings.
-use Rattle.std.specs.Prelude.{◌≡◌, ℕ, zero, suc, ◌+◌, ◌<◌, ◌≤◌, Bool, true, false, List, [], ◌∷◌, length, map, Option, None, Some, IfNone, option_map, slice_get, slice_set, refl}
-use Rattle.std.proofs.Common.{◌∙◌, ◌⊎◌, ap, arith, inl, inr, subst, sym}
+use Rattle.std.specs.Prelude.{◌≡◌, ℕ, zero, suc, ◌+◌, ◌<◌, Bool, true, false, List, [], ◌∷◌, length, map, Option, None, Some, IfNone, option_map, slice_get, slice_set, refl}
+use Rattle.std.proofs.Common.{◌∙◌, ap, arith, inl, inr, subst, sym}
 use Rattle.std.proofs.lemmas.List.{length-map}
 use Rattle.std.proofs.lemmas.Option.{none-some, same_Some, slice_get-map, slice_get_within}
 use Rattle.domain_laws.specs.Laws.{IsLatticeOn}
@@ -9,10 +9,9 @@ use Rattle.flow_net.specs.Numbers.{item_at, IsNumberOf}
 use Rattle.flow_net.specs.declared.net.NetArc.{NetArc}
 use Rattle.net_tables.specs.Numbers.{numbers_of}
 use Rattle.net_tables.proofs.Numbering as numbering
-use Rattle.fixpoint.specs.Solved.{IsKept}
-use Rattle.fixpoint.specs.Steps.{Holds, HasCome, IsIn, IsSpread, ranks_of, waiting}
-use Rattle.fixpoint.specs.Values.{value_of, waits, Passes}
-use Rattle.fixpoint.proofs.Turns.{turn, turn_less}
+use Rattle.fixpoint.specs.Steps.{Holds, IsIn, IsSpread}
+use Rattle.fixpoint.specs.Values.{value_of, waits}
+use Rattle.fixpoint.proofs.Turns.{turn}
 
 to_other : (number : ℕ) (xs : List ℕ) → IsIn number xs → numbering.IsIn number xs
 to_other number [] is = is

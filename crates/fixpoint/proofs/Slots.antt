@@ -1,8 +1,6 @@
 -- Slots of a table of states, and marks of the places that wait.
-use Rattle.std.specs.Prelude.{◌≡◌, ℕ, ◌+◌, ◌<◌, ◌≤◌, Bool, true, false, List, length, Option, None, Some, slice_index_or, slice_set}
-use Rattle.std.specs.List.{sum_by}
-use Rattle.std.proofs.Common.{◌∙◌, ap, arith, inl, inr, ◌⊎◌, subst, sym}
-use Rattle.std.proofs.lemmas.Bool.{cases_eq}
+use Rattle.std.specs.Prelude.{◌≡◌, ℕ, ◌+◌, ◌<◌, ◌≤◌, Bool, true, false, List, length, Option, None, slice_set}
+use Rattle.std.proofs.Common.{ap, arith}
 use Rattle.std.proofs.lemmas.List.{get_or-set_other, get_or-set_same, set-get_or}
 use Rattle.std.proofs.lemmas.List.Sums.{sum_by-set}
 use Rattle.domain_laws.specs.Options.{option_rank}

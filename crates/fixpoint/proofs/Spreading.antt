@@ -1,5 +1,5 @@
 -- The outcome of a place comes along the arcs that leave it, one after another.
-use Rattle.std.specs.Prelude.{◌≡◌, ℕ, zero, suc, ◌+◌, ◌<◌, ◌≤◌, Bool, true, List, [], ◌∷◌, length, Option, Some, refl}
+use Rattle.std.specs.Prelude.{◌≡◌, ℕ, zero, suc, ◌<◌, Bool, true, List, [], ◌∷◌, length, Option, Some, refl}
 use Rattle.std.proofs.Common.{◌∙◌, ◌⊎◌, ap, arith, get_or, inl, inr, subst, sym}
 use Rattle.std.proofs.lemmas.Option.{same_Some}
 use Rattle.domain_laws.specs.Laws.{IsLatticeOn, IsRankedOn, IsWideningOn}
@@ -8,7 +8,7 @@ use Rattle.flow_net.specs.Numbers.{item_at}
 use Rattle.flow_net.specs.declared.net.NetArc.{NetArc}
 use Rattle.fixpoint.specs.Coming.{Comes}
 use Rattle.fixpoint.specs.Steps.{Along, Follows, HasCome, IsIn, IsSpread}
-use Rattle.fixpoint.specs.Values.{value_of, Passes}
+use Rattle.fixpoint.specs.Values.{value_of}
 use Rattle.fixpoint.proofs.Arriving.{comes_follows, comes_holds, comes_passes, follows_chain, follows_same}
 
 module _ {D : Type 0} (P : D → Type 0) (leq : D → D → Bool) (joined widened : D → D → D) (rank : D → ℕ) (height : ℕ)

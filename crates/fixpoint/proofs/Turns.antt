@@ -1,16 +1,16 @@
 -- One turn of the solver: a waiting place is taken, and its outcome comes to the places behind its arcs.
-use Rattle.std.specs.Prelude.{◌≡◌, ℕ, ◌+◌, ◌*◌, ◌<◌, ◌≤◌, Bool, true, false, List, [], ◌∷◌, length, Option, None, Some, slice_set, refl}
-use Rattle.std.proofs.Common.{◌∙◌, ◌⊎◌, ap, arith, inl, inr, subst, sym}
+use Rattle.std.specs.Prelude.{◌≡◌, ℕ, ◌+◌, ◌*◌, ◌<◌, ◌≤◌, Bool, true, false, List, length, Option, None, Some, slice_set}
+use Rattle.std.proofs.Common.{◌∙◌, ap, arith, inl, inr, subst, sym}
 use Rattle.std.proofs.lemmas.Bool.{cases_Bool, cases_eq, false≢true}
 use Rattle.std.proofs.lemmas.List.{length-set}
-use Rattle.std.proofs.lemmas.Option.{none-some, same_Some}
-use Rattle.domain_laws.specs.Laws.{IsLatticeOn, IsRankedOn, IsWideningOn}
+use Rattle.std.proofs.lemmas.Option.{same_Some}
+use Rattle.domain_laws.specs.Laws.{IsLatticeOn}
 use Rattle.domain_laws.specs.Options.{option_ok, option_leq, option_lattice_on}
 use Rattle.flow_net.specs.Numbers.{item_at}
 use Rattle.flow_net.specs.declared.net.NetArc.{NetArc}
-use Rattle.fixpoint.specs.Solved.{IsKept, PassesFirst}
+use Rattle.fixpoint.specs.Solved.{IsKept}
 use Rattle.fixpoint.specs.Values.{value_of, waits, Passes}
-use Rattle.fixpoint.specs.Steps.{Follows, HasCome, Holds, ranks_of, waiting}
+use Rattle.fixpoint.specs.Steps.{Follows, Holds, ranks_of, waiting}
 use Rattle.fixpoint.proofs.Slots.{waits_set_same, waits_set_other, waiting_less}
 
 module _ {D : Type 0} (P : D → Type 0) (leq : D → D → Bool) (joined widened : D → D → D) (rank : D → ℕ) (height : ℕ)

@@ -1,13 +1,12 @@
 -- What a solved table of states is: closed along the arcs, and under all that the analysis must not exceed.
-use Rattle.std.specs.Prelude.{◌≡◌, ℕ, ◌+◌, ◌^◌, ◌<◌, ◌≤◌, Bool, true, List, length, Option, Some, All}
+use Rattle.std.specs.Prelude.{◌≡◌, ℕ, ◌^◌, ◌<◌, ◌≤◌, Bool, true, List, length, Option, Some, All}
 use Rattle.domain_laws.specs.Laws.{IsCeiling}
-use Rattle.domain_laws.specs.Shapes.{Shape}
 use Rattle.flow_net.specs.Numbers.{item_at, IsNumberOf, IsNumberOrZero}
 use Rattle.flow_net.specs.Paths.{IsRunPath}
 use Rattle.flow_net.specs.Scopes.{HasScopes}
 use Rattle.flow_net.specs.declared.net.Net.{Net}
 use Rattle.flow_net.specs.declared.net.NetArc.{NetArc}
-use Rattle.fixpoint.specs.Values.{value_of, Passes}
+use Rattle.fixpoint.specs.Values.{value_of}
 
 -- The net has its own numbers, a run begins with arc 1 alone, and may come to each place.
 pub record IsSolvable (net : Net) : Type 0 where

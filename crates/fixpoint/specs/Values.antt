@@ -1,5 +1,5 @@
 -- Tables of states: for each place of a net the state before it, by the place's number.
-use Rattle.std.specs.Prelude.{◌≡◌, ℕ, ◌<◌, ◌≤◌, Bool, true, false, List, length, Option, None, Some, slice_index_or}
+use Rattle.std.specs.Prelude.{◌≡◌, ℕ, ◌<◌, Bool, true, false, List, length, Option, None, Some, slice_index_or}
 
 -- The state before a place. There is none at 0, or at a place that no way has come to yet.
 abbrev pub value_of : {D : Type 0} → List (Option D) → ℕ → Option D

@@ -210,6 +210,13 @@ pub fn solve<D: Widen, T: Transfer<D>>(
     let (depths, lists) = queue_depths(alloc, net)?;
     let mut waiting = Waiting::new(alloc, depths, lists)?;
     let mut values = blank(alloc, net.places.as_slice().len() + 1)?;
-    fill(net, &out, transfer, start.copy()?, &mut values, &mut waiting)?;
+    fill(
+        net,
+        &out,
+        transfer,
+        start.copy()?,
+        &mut values,
+        &mut waiting,
+    )?;
     Ok(Table::of(values))
 }

@@ -1,12 +1,12 @@
 -- A place that waits has a state, and its turn keeps what held.
-use Rattle.std.specs.Prelude.{◌≡◌, ℕ, ◌+◌, ◌*◌, ◌<◌, Bool, false, List, [], map, length, Option, slice_set}
+use Rattle.std.specs.Prelude.{◌<◌, Bool, false, List, map, length, slice_set}
 use Rattle.std.proofs.Common.{◌∙◌, arith, subst, sym}
 use Rattle.std.proofs.lemmas.Option.{get_or_from_slice_get}
 use Rattle.domain_laws.specs.Options.{option_ok}
 use Rattle.flow_net.specs.declared.net.NetArc.{NetArc}
 use Rattle.flow_net.proofs.Numbers.{item_at-all}
 use Rattle.net_tables.specs.Numbers.{numbers_of}
-use Rattle.fixpoint.specs.Steps.{Holds, IsIn, IsSpread}
+use Rattle.fixpoint.specs.Steps.{Holds, IsIn}
 use Rattle.fixpoint.specs.Values.{value_of}
 use Rattle.fixpoint.proofs.Running.{leaves, none_told, number_of, spread_at, state_of, turned}
 use Rattle.fixpoint.proofs.solving.run.Goals as goal

@@ -1,10 +1,10 @@
 -- Each arc brings the outcome to its end.
-use Rattle.std.specs.Prelude.{◌≡◌, ℕ, [], ◌∷◌, ◌+◌, ◌<◌, drop, length, List, Option}
+use Rattle.std.specs.Prelude.{ℕ, ◌+◌, ◌<◌, drop, length, List}
 use Rattle.std.proofs.Common.{arith, get_or, subst}
 use Rattle.std.proofs.lemmas.List.{drop_all, drop_more}
 use Rattle.flow_net.specs.declared.net.NetArc.{NetArc}
 use Rattle.flow_net.proofs.Numbers.{item_at-all}
-use Rattle.fixpoint.specs.Steps.{IsIn, IsSpread}
+use Rattle.fixpoint.specs.Steps.{IsSpread}
 use Rattle.fixpoint.proofs.Spreading.{in_at, spread_begins, spread_goes}
 use Rattle.fixpoint.proofs.solving.spread.Goals as goal
 

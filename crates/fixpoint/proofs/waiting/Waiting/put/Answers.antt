@@ -1,5 +1,5 @@
 -- The place stood in no list, and goes to the list of its depth.
-use Rattle.std.specs.Prelude.{◌≡◌, ◌<◌, List, length, refl}
+use Rattle.std.specs.Prelude.{◌<◌, List, length, refl}
 use Rattle.std.proofs.Common.{◌∙◌, ap, arith, sym}
 use Rattle.std.proofs.lemmas.List.{get_or_default}
 use Rattle.std.specs.Prelude.{Bool, false}
