@@ -6,3 +6,4 @@ pub mod Spreading
 pub mod Running
 pub mod Endings
 pub mod Queuing
+pub mod OnLiteral

@@ -5,6 +5,8 @@
 mod going;
 mod solving;
 mod table;
+#[cfg(test)]
+mod tests;
 mod waiting;
 
 pub use solving::solve;
