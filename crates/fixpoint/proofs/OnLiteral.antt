@@ -1,5 +1,5 @@
 -- The nested net that flow_net writes out can be solved.
-use Rattle.std.proofs.Common.{◌≤◌, ◌<◌, arith}
+use Rattle.std.proofs.Common.{arith}
 use Rattle.flow_net.proofs.OnNested.{nested_two_loops, two_loops}
 use Rattle.fixpoint.specs.Solved.{IsSolvable}
 
