@@ -1,6 +1,6 @@
 -- Each instruction that the decoder finds stands in the table at its word.
-use Rattle.std.proofs.Common.{subst, ◌≡◌, ℕ, ◌/◌, ◌%◌, ◌^◌, ◌<◌, ◌==◌, ◌&&◌, true, false, refl, arith}
-use Rattle.std.specs.Prelude.{Some, IfSome}
+use Rattle.std.proofs.Common.{◌≡◌, ℕ, ◌/◌, ◌%◌, ◌^◌, ◌<◌, ◌==◌, ◌&&◌, true, false, refl, arith}
+use Rattle.std.specs.Prelude.{IfSome}
 use Rattle.std.proofs.lemmas.Bool.{eqb-true}
 use Rattle.std.proofs.lemmas.Bool.Decides.{Decides-and, Decides-eqb}
 use Rattle.mips_decode.specs.declared.instr.Op3.{Op3}
@@ -13,10 +13,10 @@ use Rattle.mips_decode.specs.declared.instr.LoadOp.{LoadOp}
 use Rattle.mips_decode.specs.declared.instr.StoreOp.{StoreOp}
 use Rattle.mips_decode.specs.declared.instr.BranchOp.TheVariants.{Beq, Bne, Blez, Bgtz, Bltz, Bgez, Bltzal, Bgezal}
 use Rattle.mips_decode.specs.declared.instr.StopOp.{StopOp}
-use Rattle.mips_decode.specs.declared.instr.Instr.{Instr}
 use Rattle.mips_decode.specs.declared.instr.Instr.TheVariants.{Jump, Stop}
 use Rattle.mips_decode.specs.Table.{three_number, three_ops, shift_number, shift_ops, hi_lo_number, hi_lo_ops, mul_number, mul_ops, stop_number, stop_ops, imm_number, imm_ops, load_number, load_ops, store_number, store_ops, IsRow}
-use Rattle.mips_decode.specs.Decoded.{fields_of, three, shift, hi_lo, mul_div, jump_reg, jump_link, special, upper, immediate, load, store, sign_branch, sign_branches, equal_branch, zero_branch, by_op, decoded, three_op, shift_op, hi_lo_op, mul_op, stop_op, imm_op, load_op, store_op}
+use Rattle.mips_decode.specs.Decoded.{fields_of}
+use Rattle.mips_decode.specs.Decoder.{three, shift, hi_lo, mul_div, jump_reg, jump_link, special, upper, immediate, load, store, sign_branch, sign_branches, equal_branch, zero_branch, by_op, by_fields, three_op, shift_op, hi_lo_op, mul_op, stop_op, imm_op, load_op, store_op}
 use Rattle.mips_decode.proofs.Chosen.{IfSome-numbered, IfSome-cond, IfSome-then_some, IfSome-map_or}
 
 -- Two and three empty fields that are 0.
@@ -166,9 +166,8 @@ by_op-row w low =
     (λ _. tt)))))))))
 
 -- What the decoder finds is in the table.
-pub IfSome-decoded : (w : ℕ) → w < 2 ^ 32 → IfSome (decoded w) (IsRow w)
-unfolding decoded
-IfSome-decoded w low =
+pub IfSome-by_fields : (w : ℕ) → w < 2 ^ 32 → IfSome (by_fields (fields_of w)) (IsRow w)
+IfSome-by_fields w low =
     let n = w / 2 ^ 26 % 2 ^ 6 in
     IfSome-map_or (IsRow w) _ (imm_op n) _
     (λ op f. immediate-row w op (record { low = low; number = IfSome-numbered imm_number n imm_ops op f }))
@@ -177,7 +176,3 @@ IfSome-decoded w low =
     (IfSome-map_or (IsRow w) _ (store_op n) _
     (λ op f. store-row w op (record { low = low; number = IfSome-numbered store_number n store_ops op f }))
     (by_op-row w low)))
-
--- The same, of a decoded instruction.
-pub row-decoded : (w : ℕ) (instr : Instr) → w < 2 ^ 32 → decoded w ≡ Some instr → IsRow w instr
-row-decoded w instr low e = subst (λ o. IfSome o (IsRow w)) e (IfSome-decoded w low)

@@ -1,24 +1,20 @@
--- The decoder over plain numbers: the instruction that the table has for a word.
-use Rattle.std.specs.Prelude.{ℕ, ◌==◌, ◌&&◌, ◌/◌, ◌%◌, ◌^◌, true, false, find, Option, Some, None, if◌then◌else◌}
-use Rattle.std.specs.Bool.{then_some}
-use Rattle.std.specs.Option.{option_map_or}
+-- The instruction that the table has for a word: the one of 58 candidates whose word it is.
+use Rattle.std.specs.Prelude.{ℕ, ◌==◌, ◌/◌, ◌%◌, ◌^◌, true, false, List, [], ◌∷◌, ◌++◌, map, find, Option}
 use Rattle.mips_decode.specs.declared.fields.Fields.{Fields}
 use Rattle.mips_decode.specs.declared.instr.Op3.{Op3}
 use Rattle.mips_decode.specs.declared.instr.ShiftOp.{ShiftOp}
-use Rattle.mips_decode.specs.declared.instr.HiLoOp.{HiLoOp}
 use Rattle.mips_decode.specs.declared.instr.HiLoOp.TheVariants.{Mfhi, Mthi, Mflo, Mtlo}
 use Rattle.mips_decode.specs.declared.instr.MulOp.{MulOp}
 use Rattle.mips_decode.specs.declared.instr.ImmOp.{ImmOp}
 use Rattle.mips_decode.specs.declared.instr.LoadOp.{LoadOp}
 use Rattle.mips_decode.specs.declared.instr.StoreOp.{StoreOp}
-use Rattle.mips_decode.specs.declared.instr.BranchOp.{BranchOp}
 use Rattle.mips_decode.specs.declared.instr.BranchOp.TheVariants.{Beq, Bne, Blez, Bgtz, Bltz, Bgez, Bltzal, Bgezal}
 use Rattle.mips_decode.specs.declared.instr.StopOp.{StopOp}
 use Rattle.mips_decode.specs.declared.instr.Instr.{Instr}
 use Rattle.mips_decode.specs.declared.instr.Instr.TheVariants.{Three, Shift, HiLo, MulDiv, Imm, Lui, Load, Store, Branch, Jump, JumpReg, JumpLink, Stop}
-use Rattle.mips_decode.specs.Table.{three_number, three_ops, shift_number, shift_ops, hi_lo_number, hi_lo_ops, mul_number, mul_ops, stop_number, stop_ops, imm_number, imm_ops, load_number, load_ops, store_number, store_ops}
+use Rattle.mips_decode.specs.Table.{three_ops, shift_ops, mul_ops, stop_ops, imm_ops, load_ops, store_ops, word_of}
 
--- A word's fields, by the lowest bit and the width of each.
+-- A word's fields, by the lowest bit and the width of each (MIPS I manual, instruction formats).
 abbrev pub fields_of : ℕ → Fields
 fields_of word = record {
   op = word / 2 ^ 26 % 2 ^ 6;
@@ -32,134 +28,43 @@ fields_of word = record {
   code = word / 2 ^ 6 % 2 ^ 20;
 }
 
--- The operation that has a number in its column of the table.
-abbrev pub three_op : ℕ → Option Op3
-three_op number = find (λ op. number == three_number op) three_ops
+-- Each operation of the table with the fields in its operands' places, as the table has them: first those of op 0. MFHI
+-- and MFLO have their register in rd, MTHI and MTLO in rs.
+abbrev pub special_candidates : Fields → List Instr
+special_candidates fields =
+    map (λ (op : Op3). Three op fields.rd fields.rs fields.rt) three_ops
+    ++ map (λ (op : ShiftOp). Shift op fields.rd fields.rt fields.sa) shift_ops
+    ++ HiLo Mfhi fields.rd ∷ HiLo Mthi fields.rs ∷ HiLo Mflo fields.rd ∷ HiLo Mtlo fields.rs
+    ∷ map (λ (op : MulOp). MulDiv op fields.rs fields.rt) mul_ops
+    ++ JumpReg fields.rs ∷ JumpLink fields.rd fields.rs
+    ∷ map (λ (op : StopOp). Stop op fields.code) stop_ops
 
-abbrev pub shift_op : ℕ → Option ShiftOp
-shift_op number = find (λ op. number == shift_number op) shift_ops
+-- Operations with an immediate or an offset.
+abbrev pub immediate_candidates : Fields → List Instr
+immediate_candidates fields =
+    map (λ (op : ImmOp). Imm op fields.rt fields.rs fields.imm) imm_ops
+    ++ Lui fields.rt fields.imm
+    ∷ map (λ (op : LoadOp). Load op fields.rt fields.rs fields.imm) load_ops
+    ++ map (λ (op : StoreOp). Store op fields.rt fields.rs fields.imm) store_ops
 
-abbrev pub hi_lo_op : ℕ → Option HiLoOp
-hi_lo_op number = find (λ op. number == hi_lo_number op) hi_lo_ops
+-- Branches and jumps. Only BEQ and BNE compare with a second register, in the others it is register 0.
+abbrev pub branch_candidates : Fields → List Instr
+branch_candidates fields =
+    Branch Beq fields.rs fields.rt fields.imm ∷ Branch Bne fields.rs fields.rt fields.imm
+    ∷ Branch Blez fields.rs 0 fields.imm ∷ Branch Bgtz fields.rs 0 fields.imm
+    ∷ Branch Bltz fields.rs 0 fields.imm ∷ Branch Bgez fields.rs 0 fields.imm
+    ∷ Branch Bltzal fields.rs 0 fields.imm ∷ Branch Bgezal fields.rs 0 fields.imm
+    ∷ Jump false fields.index ∷ Jump true fields.index ∷ []
 
-abbrev pub mul_op : ℕ → Option MulOp
-mul_op number = find (λ op. number == mul_number op) mul_ops
+abbrev pub candidates_with : Fields → List Instr
+candidates_with fields =
+    special_candidates fields ++ immediate_candidates fields ++ branch_candidates fields
 
-abbrev pub stop_op : ℕ → Option StopOp
-stop_op number = find (λ op. number == stop_number op) stop_ops
+abbrev pub candidates : ℕ → List Instr
+candidates word = candidates_with (fields_of word)
 
-abbrev pub imm_op : ℕ → Option ImmOp
-imm_op number = find (λ op. number == imm_number op) imm_ops
-
-abbrev pub load_op : ℕ → Option LoadOp
-load_op number = find (λ op. number == load_number op) load_ops
-
-abbrev pub store_op : ℕ → Option StoreOp
-store_op number = find (λ op. number == store_number op) store_ops
-
--- An instruction stands in the table only where its empty fields are 0.
-abbrev pub three : Fields → Op3 → Option Instr
-three fields op = then_some (fields.sa == 0) (Three op fields.rd fields.rs fields.rt)
-
-abbrev pub shift : Fields → ShiftOp → Option Instr
-shift fields op = then_some (fields.rs == 0) (Shift op fields.rd fields.rt fields.sa)
-
-abbrev pub move_from : Fields → HiLoOp → Option Instr
-move_from fields op =
-    then_some (fields.rs == 0 && fields.rt == 0 && fields.sa == 0) (HiLo op fields.rd)
-
-abbrev pub move_to : Fields → HiLoOp → Option Instr
-move_to fields op =
-    then_some (fields.rt == 0 && fields.rd == 0 && fields.sa == 0) (HiLo op fields.rs)
-
-abbrev pub hi_lo : Fields → HiLoOp → Option Instr
-hi_lo fields Mfhi = move_from fields Mfhi
-hi_lo fields Mthi = move_to fields Mthi
-hi_lo fields Mflo = move_from fields Mflo
-hi_lo fields Mtlo = move_to fields Mtlo
-
-abbrev pub mul_div : Fields → MulOp → Option Instr
-mul_div fields op = then_some (fields.rd == 0 && fields.sa == 0) (MulDiv op fields.rs fields.rt)
-
-abbrev pub stop : Fields → StopOp → Option Instr
-stop fields op = Some (Stop op fields.code)
-
-abbrev pub jump_reg : Fields → Option Instr
-jump_reg fields =
-    then_some (fields.rt == 0 && fields.rd == 0 && fields.sa == 0) (JumpReg fields.rs)
-
-abbrev pub jump_link : Fields → Option Instr
-jump_link fields = then_some (fields.rt == 0 && fields.sa == 0) (JumpLink fields.rd fields.rs)
-
--- The jumps of op 0.
-abbrev pub register_jump : Fields → Option Instr
-register_jump fields =
-    if fields.function == 8 then jump_reg fields
-    else if fields.function == 9 then jump_link fields
-    else None
-
--- The operations of op 0, by fn.
-abbrev pub special : Fields → Option Instr
-special fields =
-    option_map_or (three fields) (three_op fields.function)
-    (option_map_or (shift fields) (shift_op fields.function)
-    (option_map_or (hi_lo fields) (hi_lo_op fields.function)
-    (option_map_or (mul_div fields) (mul_op fields.function)
-    (option_map_or (stop fields) (stop_op fields.function) (register_jump fields)))))
-
-abbrev pub upper : Fields → Option Instr
-upper fields = then_some (fields.rs == 0) (Lui fields.rt fields.imm)
-
-abbrev pub immediate : Fields → ImmOp → Option Instr
-immediate fields op = Some (Imm op fields.rt fields.rs fields.imm)
-
-abbrev pub load : Fields → LoadOp → Option Instr
-load fields op = Some (Load op fields.rt fields.rs fields.imm)
-
-abbrev pub store : Fields → StoreOp → Option Instr
-store fields op = Some (Store op fields.rt fields.rs fields.imm)
-
--- The branches of op 1, by rt: they compare a register with zero.
-abbrev pub sign_branch : Fields → BranchOp → Option Instr
-sign_branch fields op = Some (Branch op fields.rs 0 fields.imm)
-
-abbrev pub sign_branches : Fields → Option Instr
-sign_branches fields =
-    if fields.rt == 0 then sign_branch fields Bltz
-    else if fields.rt == 1 then sign_branch fields Bgez
-    else if fields.rt == 16 then sign_branch fields Bltzal
-    else if fields.rt == 17 then sign_branch fields Bgezal
-    else None
-
--- A branch that compares two registers, and one that compares a register with zero.
-abbrev pub equal_branch : Fields → BranchOp → Option Instr
-equal_branch fields op = Some (Branch op fields.rs fields.rt fields.imm)
-
-abbrev pub zero_branch : Fields → BranchOp → Option Instr
-zero_branch fields op = then_some (fields.rt == 0) (Branch op fields.rs fields.rt fields.imm)
-
--- What isn't a load, a store or an operation on an immediate, by op.
-abbrev pub by_op : Fields → Option Instr
-by_op fields =
-    if fields.op == 0 then special fields
-    else if fields.op == 1 then sign_branches fields
-    else if fields.op == 2 then Some (Jump false fields.index)
-    else if fields.op == 3 then Some (Jump true fields.index)
-    else if fields.op == 4 then equal_branch fields Beq
-    else if fields.op == 5 then equal_branch fields Bne
-    else if fields.op == 6 then zero_branch fields Blez
-    else if fields.op == 7 then zero_branch fields Bgtz
-    else if fields.op == 15 then upper fields
-    else None
-
--- The instruction of a word's fields, by op.
-abbrev pub by_fields : Fields → Option Instr
-by_fields fields =
-    option_map_or (immediate fields) (imm_op fields.op)
-    (option_map_or (load fields) (load_op fields.op)
-    (option_map_or (store fields) (store_op fields.op) (by_op fields)))
-
--- The instruction that the table has for a word, if it has one. What crates above need of it is in
--- the clauses of `decode` and in the lemmas of proofs/, so its body stays closed to them.
+-- The instruction that the table has for a word, if it has one. There's never a second one: two instructions whose
+-- fields are in their ranges have two words, as `decode` promises by its clause `only`. What crates above need of it is
+-- in the clauses of `decode`, so its body stays closed to them.
 unfoldable pub decoded : ℕ → Option Instr
-decoded word = by_fields (fields_of word)
+decoded word = find (λ instr. word == word_of instr) (candidates word)

@@ -1,6 +1,7 @@
 pub mod State
 pub mod Table
 pub mod Decoded
+pub mod Decoder
 pub mod Arithmetic
 pub mod Memory
 pub mod Effect

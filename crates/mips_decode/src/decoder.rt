@@ -1,6 +1,7 @@
 //! From a word to its instruction.
 
-ghost use Rattle.mips_decode.specs.Decoded.{by_fields, by_op, decoded, equal_branch, hi_lo, immediate, jump_link, jump_reg, load, move_from, move_to, mul_div, register_jump, shift, sign_branch, sign_branches, special, stop, store, three, upper, zero_branch};
+ghost use Rattle.mips_decode.specs.Decoded.{decoded};
+ghost use Rattle.mips_decode.specs.Decoder.{by_fields, by_op, equal_branch, hi_lo, immediate, jump_link, jump_reg, load, move_from, move_to, mul_div, register_jump, shift, sign_branch, sign_branches, special, stop, store, three, upper, zero_branch};
 ghost use Rattle.mips_decode.specs.Table.{IsRow, IsValid, word_of};
 ghost use Rattle.mips_decode.specs.declared.instr.Instr.{Instr};
 ghost use Rattle.std.specs.Prelude.{◌≡◌, ◌==◌, IfSome, Option};
@@ -267,7 +268,6 @@ fn by_fields(fields: &Fields) -> Option<Instr>
 }
 
 /// The instruction that the table has for a word; none where it has no row.
-#[tactic(auto, unfolding(crate::specs::Decoded::decoded))]
 pub fn decode(word: u32) -> Option<Instr>
     ensures exact { result ≡ decoded word }
     ensures found { IfSome result (IsRow word) }

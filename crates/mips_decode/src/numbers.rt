@@ -1,6 +1,6 @@
 //! The numbers that the operations have in the instruction table.
 
-ghost use Rattle.mips_decode.specs.Decoded.{hi_lo_op, imm_op, load_op, mul_op, shift_op, stop_op, store_op, three_op};
+ghost use Rattle.mips_decode.specs.Decoder.{hi_lo_op, imm_op, load_op, mul_op, shift_op, stop_op, store_op, three_op};
 ghost use Rattle.mips_decode.specs.Table.{hi_lo_number, imm_number, load_number, mul_number, shift_number, stop_number, store_number, three_number};
 ghost use Rattle.std.specs.Prelude.{◌≡◌, ◌<◌, Option};
 
