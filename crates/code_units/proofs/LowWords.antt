@@ -39,7 +39,7 @@ code_low segments address word low e =
     let ends = and_parts (nat_le one.0.address address)
     (nat_le (address + 4) (one.0.address + one.0.size)) inside.0 in
     let above : address + 4 ≤ one.0.address + one.0.size = leb-true _ _ ends.1 in
-    let below : one.0.address + one.0.size ≤ 0xFFFFFFF0 = held.0 in
+    let below : EndsLow one.0 = held.0 in
     omega arith
 
 always : {X : Type 0} (o : Option X) (P : Type 0) → P → OnSome o P

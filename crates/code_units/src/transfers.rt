@@ -1,4 +1,4 @@
-//! Where instructions go on and what they call, recorded targets apart.
+//! Where instructions go on and what they call by themselves, and which of them need recorded targets.
 
 ghost use Rattle.std.specs.Prelude.{◌≡◌, ◌+◌, ◌<◌, ◌^◌, ◌&&◌, ◌∷◌, [], false, if◌then◌else◌};
 ghost use Rattle.elf_mips.specs.declared.image.Image.{Image};
@@ -58,11 +58,12 @@ fn branch_on(op: BranchOp, rs: u32, rt: u32, offset: u16, address: u32) -> Ways
     }
 }
 
-/// Where an instruction goes on without waiting for a call, recorded targets apart.
+/// Where an instruction goes on without waiting for a call, if it needs no recorded target to do so.
 pub fn own_ways(instr: &Instr, address: u32) -> Ways
     requires valid { IsValid instr.now }
     requires low { address + 8 < 2 ^ 32 }
-    ensures { (image : Image) → is_indirect instr.now ≡ false → IsSetOf (own_ways image instr.now address) (listed result) }
+    requires own { is_indirect instr.now ≡ false }
+    ensures { (image : Image) → IsSetOf (own_ways image instr.now address) (listed result) }
 {
     match *instr {
         Instr::Branch { op, rs, rt, offset } => {
@@ -70,7 +71,8 @@ pub fn own_ways(instr: &Instr, address: u32) -> Ways
         }
         Instr::Jump { link: false, index } => Ways::One(jump_target(address, index)),
         Instr::Jump { link: true, .. } => Ways::Nowhere,
-        Instr::JumpReg { .. } => Ways::Nowhere,
+        Instr::JumpReg { rs } if rs.number() == 31 => Ways::Nowhere,
+        Instr::JumpReg { .. } => unreachable!(),
         Instr::JumpLink { .. } => Ways::Nowhere,
         _ => Ways::One(address + 4),
     }
@@ -88,17 +90,19 @@ fn branch_callee(op: BranchOp, rs: u32, rt: u32, offset: u16, address: u32) -> W
     }
 }
 
-/// What an instruction calls, recorded targets apart.
+/// What an instruction calls, if it needs no recorded target to do so.
 pub fn own_callee(instr: &Instr, address: u32) -> Ways
     requires valid { IsValid instr.now }
     requires low { address + 8 < 2 ^ 32 }
-    ensures { (image : Image) → is_register_call instr.now ≡ false → IsSetOf (callees image instr.now address) (listed result) }
+    requires own { is_register_call instr.now ≡ false }
+    ensures { (image : Image) → IsSetOf (callees image instr.now address) (listed result) }
 {
     match *instr {
         Instr::Branch { op, rs, rt, offset } => {
             branch_callee(op, rs.number(), rt.number(), offset, address)
         }
         Instr::Jump { link: true, index } => Ways::One(jump_target(address, index)),
+        Instr::JumpLink { .. } => unreachable!(),
         _ => Ways::Nowhere,
     }
 }

@@ -49,7 +49,7 @@ none-there : (test : Segment → Bool) (segments : List Segment) → All EndsLow
     find (λ (s : Segment). holds 4 return_address s && test s) segments ≡ None
 none-there test [] low = refl
 none-there test (segment ∷ more) low =
-    let end : segment.address + segment.size ≤ 0xFFFFFFF0 = All-head EndsLow segment more low in
+    let end : segment.address + segment.size ≤ return_address = All-head EndsLow segment more low in
     let out : holds 4 return_address segment ≡ false = grind (arith, nat_tests) in
     rw out (none-there test more (All-tail EndsLow segment more low))
 

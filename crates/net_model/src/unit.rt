@@ -27,7 +27,9 @@ pub enum CodeKind {
 /// in its delay slot.
 #[derive(Clone, Copy, Debug, PartialEq, Eq)]
 pub struct CodeUnit {
+    /// The instruction at its address.
     pub instr: Instr,
+    /// The instruction in the delay slot; just a jump or branch has one.
     pub slot: Option<Instr>,
 }
 
@@ -35,6 +37,8 @@ pub struct CodeUnit {
 /// place.
 #[derive(Clone, Copy, Debug, PartialEq, Eq)]
 pub enum Content {
+    /// A unit.
     Unit(CodeUnit),
+    /// A fault: its kind, and its place as `CodeKind` says it.
     Fault { kind: CodeKind, place: u32 },
 }

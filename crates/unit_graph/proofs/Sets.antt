@@ -1,6 +1,6 @@
 -- Sets of what was seen.
-use Rattle.std.proofs.Common.{◌≡◌, ℕ, Bool, true, false, List, [], sym, subst, inl, inr, if◌then◌else◌, Result, Ok, Err}
-use Rattle.std.specs.Prelude.{Contains, IfOk}
+use Rattle.std.proofs.Common.{◌≡◌, ℕ, ◌<◌, Bool, true, false, List, [], sym, subst, inl, inr, if◌then◌else◌, Result, Ok, Err}
+use Rattle.std.specs.Prelude.{AllPairs, Contains, IfOk}
 use Rattle.std.specs.List.Sorted.{IsStrictlySortedBy}
 use Rattle.std.specs.Ordering.{nat_cmp}
 use Rattle.std.proofs.lemmas.Map.Keys.{below_from_sorted}
@@ -49,6 +49,11 @@ AreJust-seen these none nobody keys waiting items empty sorted sees e =
       ];
       whole = sees.there;
     })
+
+-- The numbers of a rising list.
+pub AreJust-rising : (numbers items : List ℕ) → AllPairs (λ (a b : ℕ). a < b) numbers → items ≡ numbers → AreJust (Contains numbers) items
+AreJust-rising numbers items rising e =
+    subst (AreJust (Contains numbers)) (sym e) (record { rising = rising; sound = λ x h. h; whole = λ x h. h })
 
 pub AreJust-same : (these others : ℕ → Type 0) (items : List ℕ) → ((x : ℕ) → these x → others x) → ((x : ℕ) → others x → these x) →
     AreJust these items → AreJust others items

@@ -52,6 +52,21 @@ pub record IsGraph (image : Image) (function : ℕ) (graph : Graph) : Type 0 whe
       Contains (map (λ (node : Node). node.address) graph.units) address
   pub returning : graph.can_return ≡ list_any (λ (node : Node). node.returns) graph.units
 
+-- There are an image and a function whose graph it is.
+abbrev pub HasImage : Graph → Type 0
+HasImage graph = (image : Image) × (function : ℕ) × IsGraph image function graph
+
+-- What is said of each image and function whose graph it is.
+abbrev pub OfImage : Graph → (said : Image → ℕ → Type 0) → Type 0
+OfImage graph said = (image : Image) (function : ℕ) → IsGraph image function graph → said image function
+
+-- The same of graphs that all are of one image, each of the function of its entry.
+abbrev pub HaveImage : List Graph → Type 0
+HaveImage graphs = (image : Image) × All (λ (g : Graph). IsGraph image g.entry g) graphs
+
+abbrev pub OfTheirImage : List Graph → (said : Image → Type 0) → Type 0
+OfTheirImage graphs said = (image : Image) → All (λ (g : Graph). IsGraph image g.entry g) graphs → said image
+
 -- The graph of a function of the program.
 pub record IsGraphIn (image : Image) (entry : ℕ) (graph : Graph) : Type 0 where
   pub function : IsFunction image entry graph.entry

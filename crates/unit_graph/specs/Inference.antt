@@ -7,7 +7,7 @@ use Rattle.net_model.specs.Functions.{CanReturn}
 use Rattle.net_model.specs.Onward.{returns}
 use Rattle.net_model.specs.declared.unit.Content.{Content}
 use Rattle.net_model.specs.declared.unit.Content.TheVariants.{Unit as Stands, Fault}
-use Rattle.unit_graph.specs.Rows.{AreRows, HasRow}
+use Rattle.unit_graph.specs.Rows.{HasRow, OfTheirImage}
 use Rattle.unit_graph.specs.Search.{IsWithin}
 use Rattle.unit_graph.specs.declared.inference.Rule.{Rule}
 use Rattle.unit_graph.specs.declared.rows.Row.{Row}
@@ -103,7 +103,7 @@ pub record IsEnd (rows : List Row) (address : ℕ) : Type 0 where
 -- The return units are seen; all that are seen can return; and where all conditions of a rule are seen and none of
 -- them waits, what follows is seen.
 pub record IsInferring (rows : List Row) (rules : List Rule) (seen waiting : List ℕ) : Type 0 where
-  pub sound : (image : Image) (entry : ℕ) → AreRows image entry rows → CanAllReturn image seen
+  pub sound : OfTheirImage rows (λ image entry. CanAllReturn image seen)
   pub ends : (address : ℕ) → IsEnd rows address → Contains seen address
   pub known : IsWithin waiting seen
   pub alone : (x y : ℕ) → Contains rules (record { given = x; other = None; then = y }) → Contains seen x →

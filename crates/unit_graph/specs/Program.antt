@@ -43,6 +43,14 @@ pub record IsProgram (image : Image) (entry : ℕ) (program : Program) : Type 0 
   pub code : AreJust (IsCode image entry) program.code.items
   pub functions : AreJust (IsFunction image entry) program.functions.items
 
+-- There are an image and an entry whose program it is.
+abbrev pub HasImage : Program → Type 0
+HasImage program = (image : Image) × (entry : ℕ) × IsProgram image entry program
+
+-- What is said of each image and entry whose program it is.
+abbrev pub OfImage : Program → (said : Image → ℕ → Type 0) → Type 0
+OfImage program said = (image : Image) (entry : ℕ) → IsProgram image entry program → said image entry
+
 -- A unit stands at each address to which a function leads.
 abbrev pub AreUnits : List Row → (returning : List ℕ) → ℕ → Type 0
 AreUnits rows returning function = (x : ℕ) → IsLed (Leads rows returning Function) function x → HasUnit rows x

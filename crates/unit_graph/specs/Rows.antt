@@ -26,6 +26,14 @@ pub record IsRow (image : Image) (row : Row) : Type 0 where
   pub onward : IsSetOf (ways_of_content image row.content row.address) row.onward
   pub calls : IsSetOf (calls_of_content image row.content row.address) row.calls
 
+-- The rows are all of one image.
+abbrev pub ShareImage : List Row → Type 0
+ShareImage rows = (image : Image) × All (IsRow image) rows
+
+-- What is said of each image of which they all are.
+abbrev pub OfSharedImage : List Row → (said : Image → Type 0) → Type 0
+OfSharedImage rows said = (image : Image) → All (IsRow image) rows → said image
+
 -- The rows rise, each address has one.
 abbrev pub Rise : List Row → Type 0
 Rise rows = AllPairs (λ (r s : Row). r.address < s.address) rows
@@ -60,3 +68,11 @@ pub record AreRows (image : Image) (entry : ℕ) (rows : List Row) : Type 0 wher
   pub each : All (IsRow image) rows
   pub begins : HasRow rows entry
   pub closed : (row : Row) → Contains rows row → (later : ℕ) → MayLead row later → HasRow rows later
+
+-- There are an image and an entry whose rows these are.
+abbrev pub HaveImage : List Row → Type 0
+HaveImage rows = (image : Image) × (entry : ℕ) × AreRows image entry rows
+
+-- What is said of each image and entry whose rows these are.
+abbrev pub OfTheirImage : List Row → (said : Image → ℕ → Type 0) → Type 0
+OfTheirImage rows said = (image : Image) (entry : ℕ) → AreRows image entry rows → said image entry

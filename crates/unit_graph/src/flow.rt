@@ -2,7 +2,7 @@
 
 ghost use Rattle.std.specs.Prelude.{◌≡◌, ◌↔◌, ◌+◌, ◌<◌, ◌^◌, [], ℕ, All, Contains, IfOk, IsTrue, OnOk, length};
 ghost use Rattle.elf_mips.specs.declared.image.Image.{Image};
-ghost use Rattle.unit_graph.specs.Rows.{IsRow, Rise};
+ghost use Rattle.unit_graph.specs.Rows.{IsRow, Rise, ShareImage};
 ghost use Rattle.unit_graph.specs.Search.{AreLed, Sees};
 
 use crate::rows::Row;
@@ -14,7 +14,9 @@ use std::collections::BTreeSet;
 /// Whether the units of one function are looked for, or those of all functions that it calls too.
 #[derive(Clone, Copy, Debug, PartialEq, Eq)]
 pub enum Reach {
+    /// The units of one function.
     Function,
+    /// Those of all functions that it calls too.
     Program,
 }
 
@@ -40,7 +42,8 @@ fn see_behind(
     waiting: &mut Vec<u32>,
 ) -> Result<(), AllocError>
     requires { 0 < length row.now.calls → row.now.address + 8 < 2 ^ 32 }
-    ensures { OnOk result (Sees (ComesBack returning.now.keys row.now) seen.old.keys waiting.old.items seen.new.keys waiting.new.items) }
+    ensures { OnOk result (Sees (ComesBack returning.now.keys row.now)
+        seen.old.keys waiting.old.items seen.new.keys waiting.new.items) }
 {
     if !some_returns(row.calls.as_slice(), returning) {
         return Ok(());
@@ -57,7 +60,8 @@ pub fn see_onward(
     waiting: &mut Vec<u32>,
 ) -> Result<(), AllocError>
     requires { 0 < length row.now.calls → row.now.address + 8 < 2 ^ 32 }
-    ensures { OnOk result (Sees (Follows returning.now.keys row.now) seen.old.keys waiting.old.items seen.new.keys waiting.new.items) }
+    ensures { OnOk result (Sees (Follows returning.now.keys row.now)
+        seen.old.keys waiting.old.items seen.new.keys waiting.new.items) }
 {
     see_all(row.onward.as_slice(), seen, waiting)?;
     see_behind(row, returning, seen, waiting)?;
@@ -73,7 +77,8 @@ fn see_row(
     waiting: &mut Vec<u32>,
 ) -> Result<(), AllocError>
     requires { 0 < length row.now.calls → row.now.address + 8 < 2 ^ 32 }
-    ensures { OnOk result (Sees (LeadsFrom returning.now.keys reach row.now) seen.old.keys waiting.old.items seen.new.keys waiting.new.items) }
+    ensures { OnOk result (Sees (LeadsFrom returning.now.keys reach row.now)
+        seen.old.keys waiting.old.items seen.new.keys waiting.new.items) }
 {
     see_onward(row, returning, seen, waiting)?;
     if reach == Reach::Function {
@@ -93,8 +98,9 @@ fn see_at(
     waiting: &mut Vec<u32>,
 ) -> Result<(), AllocError>
     requires rising { Rise rows.now }
-    requires each { (image : Image) × All (IsRow image) rows.now }
-    ensures { OnOk result (Sees (Leads rows.now returning.now.keys reach address) seen.old.keys waiting.old.items seen.new.keys waiting.new.items) }
+    requires each { ShareImage rows.now }
+    ensures { OnOk result (Sees (Leads rows.now returning.now.keys reach address)
+        seen.old.keys waiting.old.items seen.new.keys waiting.new.items) }
 {
     let Some(row) = row_at(rows, address) else {
         return Ok(());
@@ -114,7 +120,7 @@ pub fn led_from(
     start: u32,
 ) -> Result<BTreeSet<u32>, AllocError>
     requires rising { Rise rows.now }
-    requires each { (image : Image) × All (IsRow image) rows.now }
+    requires each { ShareImage rows.now }
     ensures { IfOk result (λ led. AreLed (Leads rows.now returning.now.keys reach) start led.keys) }
 {
     let mut seen = BTreeSet::new(alloc);

@@ -4,7 +4,7 @@ ghost use Rattle.std.specs.Prelude.{◌≡◌, ℕ, All, AllPairs, Contains, IfE
 ghost use Rattle.elf_mips.specs.declared.image.Image.{Image};
 ghost use Rattle.unit_graph.specs.Flow.{Leads};
 ghost use Rattle.unit_graph.specs.Inference.{AreReturning};
-ghost use Rattle.unit_graph.specs.Rows.{AreRows, HasUnit};
+ghost use Rattle.unit_graph.specs.Rows.{AreRows, HasUnit, HaveImage, OfTheirImage};
 ghost use Rattle.unit_graph.specs.Search.{IsLed};
 ghost use Rattle.unit_graph.specs.declared.flow.Reach.{Reach};
 
@@ -49,10 +49,10 @@ fn graph_of(
     returning: &BTreeSet<u32>,
     function: u32,
 ) -> Result<Graph, AllocError>
-    requires rows { (image : Image) × (entry : ℕ) × AreRows image entry rows.now }
+    requires rows { HaveImage rows.now }
     requires units { AreUnits rows.now returning.now.keys function }
-    ensures { IfOk result (λ graph. (image : Image) (entry : ℕ) → AreRows image entry rows.now →
-        AreReturning image rows.now returning.now.keys → IsGraph image function graph) }
+    ensures { IfOk result (λ graph. OfTheirImage rows.now (λ image entry.
+        AreReturning image rows.now returning.now.keys → IsGraph image function graph)) }
 {
     let led = led_from(alloc, rows, Reach::Function, returning, function)?;
     let addresses = items_of(alloc, &led)?;
@@ -74,11 +74,10 @@ fn other_graphs(
     entry: u32,
     graphs: &mut List<Graph>,
 ) -> Result<(), AllocError>
-    requires rows { (image : Image) × (entry : ℕ) × AreRows image entry rows.now }
+    requires rows { HaveImage rows.now }
     requires units { All (AreUnits rows.now returning.now.keys) functions.now }
-    ensures { OnOk result ((image : Image) (main : ℕ) → AreRows image main rows.now →
-        AreReturning image rows.now returning.now.keys →
-        AreGraphsOf image entry functions.now graphs.old graphs.new) }
+    ensures { OnOk result (OfTheirImage rows.now (λ image main. AreReturning image rows.now returning.now.keys →
+        AreGraphsOf image entry functions.now graphs.old graphs.new)) }
 {
     for function in functions {
         if *function == entry {
@@ -112,8 +111,8 @@ fn graphs_of(alloc: Global, program: &Program, entry: u32) -> Result<List<Graph>
 /// The graphs of the functions that a program reaches from its entry.
 ///
 /// `Bad` is the code's first fault with its address: a recursion comes behind all faults of the units. It
-/// takes time in proportion to the units of the functions, those of shared code once for each, times their
-/// logarithm.
+/// takes time in proportion to the units and arcs of the functions, those of shared code once for each, and
+/// to the units and arcs to which the code may lead, times their logarithm. Calls are among the arcs.
 pub fn function_graphs(alloc: Global, image: &Image, entry: u32) -> Result<Graphs, CodeFault>
     ensures graphs { IfOk result (AreGraphs image.now entry) }
     ensures faultless { OnOk result (HasNoFault image.now entry) }

@@ -3,7 +3,7 @@
 ghost use Rattle.std.specs.Prelude.{◌≡◌, ◌↔◌, ◌+◌, ◌<◌, ◌^◌, ◌∷◌, [], ℕ, All, Contains, IfOk, IsTrue, OnOk, length};
 ghost use Rattle.std.specs.List.Sorted.{IsNonDecreasingBy};
 ghost use Rattle.elf_mips.specs.declared.image.Image.{Image};
-ghost use Rattle.unit_graph.specs.Rows.{AreRows, IsRow};
+ghost use Rattle.unit_graph.specs.Rows.{AreRows, HaveImage, IsRow, OfTheirImage, ShareImage};
 ghost use Rattle.unit_graph.specs.Search.{Sees};
 ghost use Rattle.unit_graph.specs.Inference.{Adds, AreReturning, AreRules, Infers, IsCallRule, IsEnd, IsMetBy, IsOnwardRule, IsRuleOf, IsTried, returns_at};
 
@@ -131,7 +131,7 @@ fn add_rules(row: &Row, rules: &mut Vec<Rule>) -> Result<(), AllocError>
 
 /// The rules of the rows, by the addresses of their first conditions.
 fn rules_of(alloc: Global, rows: &[Row]) -> Result<Vec<Rule>, AllocError>
-    requires { (image : Image) × All (IsRow image) rows.now }
+    requires { ShareImage rows.now }
     ensures { IfOk result (λ rules. AreRules rows.now rules.items) }
 {
     let mut rules = Vec::new(alloc);
@@ -158,7 +158,8 @@ fn see_end(
     returning: &mut BTreeSet<u32>,
     waiting: &mut Vec<u32>,
 ) -> Result<(), AllocError>
-    ensures { OnOk result (Sees (IsEnd (row.now ∷ [])) returning.old.keys waiting.old.items returning.new.keys waiting.new.items) }
+    ensures { OnOk result (Sees (IsEnd (row.now ∷ []))
+        returning.old.keys waiting.old.items returning.new.keys waiting.new.items) }
 {
     if !returns_at(&row.content) {
         return Ok(());
@@ -173,7 +174,8 @@ fn see_ends(
     returning: &mut BTreeSet<u32>,
     waiting: &mut Vec<u32>,
 ) -> Result<(), AllocError>
-    ensures { OnOk result (Sees (IsEnd rows.now) returning.old.keys waiting.old.items returning.new.keys waiting.new.items) }
+    ensures { OnOk result (Sees (IsEnd rows.now)
+        returning.old.keys waiting.old.items returning.new.keys waiting.new.items) }
 {
     for row in rows {
         see_end(row, returning, waiting)?;
@@ -185,9 +187,9 @@ fn see_ends(
 ///
 /// Each rule is looked at once, so it takes time in proportion to the rules times their logarithm.
 pub fn returning_of(alloc: Global, rows: &[Row]) -> Result<BTreeSet<u32>, AllocError>
-    requires { (image : Image) × (entry : ℕ) × AreRows image entry rows.now }
-    ensures { IfOk result (λ returning. (image : Image) (entry : ℕ) → AreRows image entry rows.now →
-        AreReturning image rows.now returning.keys) }
+    requires { HaveImage rows.now }
+    ensures { IfOk result (λ returning.
+        OfTheirImage rows.now (λ image entry. AreReturning image rows.now returning.keys)) }
 {
     let rules = rules_of(alloc, rows)?;
     let mut returning = BTreeSet::new(alloc);

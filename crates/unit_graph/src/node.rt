@@ -1,16 +1,16 @@
 //! The nodes of a function's graph.
 
-ghost use Rattle.std.specs.Prelude.{◌≡◌, ◌+◌, ◌<◌, ◌^◌, ℕ, All, Contains, IfOk, length};
+ghost use Rattle.std.specs.Prelude.{◌≡◌, ◌+◌, ◌<◌, ◌^◌, ℕ, All, AllPairs, Contains, IfOk, length};
 ghost use Rattle.std.specs.List.{AllZip, list_any};
 ghost use Rattle.elf_mips.specs.declared.image.Image.{Image};
 ghost use Rattle.unit_graph.specs.Flow.{Follows};
 ghost use Rattle.unit_graph.specs.Inference.{AreReturning};
-ghost use Rattle.unit_graph.specs.Rows.{AreRows, HasUnit};
+ghost use Rattle.unit_graph.specs.Rows.{AreRows, HasUnit, HaveImage, OfTheirImage};
 ghost use Rattle.code_units.specs.Ways.{IsPlaced};
 
 use crate::flow::see_onward;
 use crate::rows::Row;
-use crate::search::{items_of, see_all};
+use crate::search::items_of;
 use crate::span::row_at;
 use code_units::{is_link_passed, load_of, returns};
 use net_model::{CodeUnit, Content};
@@ -55,13 +55,10 @@ fn onward_of(alloc: Global, row: &Row, returning: &BTreeSet<u32>) -> Result<List
 
 /// A copy of what a row's unit calls.
 fn calls_of(alloc: Global, calls: &[u32]) -> Result<List<u32>, AllocError>
+    requires { AllPairs (λ a b. a < b) calls.now }
     ensures { IfOk result (AreJust (Contains calls.now)) }
 {
-    let mut seen = BTreeSet::new(alloc);
-    let mut waiting = Vec::new(alloc);
-    see_all(calls, &mut seen, &mut waiting)?;
-    let items = items_of(alloc, &seen)?;
-    Ok(List::from_vec(items))
+    Ok(List::from_vec(Vec::from_slice(alloc, calls)?))
 }
 
 /// The node of a row's unit.
@@ -73,6 +70,7 @@ fn node_of(
 ) -> Result<Unit, AllocError>
     requires placed { IsPlaced unit.now row.now.address }
     requires low { 0 < length row.now.calls → row.now.address + 8 < 2 ^ 32 }
+    requires rising { AllPairs (λ a b. a < b) row.now.calls }
     ensures { IfOk result (IsNodeOf returning.now.keys row.now unit.now) }
 {
     let onward = onward_of(alloc, row, returning)?;
@@ -95,10 +93,10 @@ fn node_at(
     returning: &BTreeSet<u32>,
     address: u32,
 ) -> Result<Unit, AllocError>
-    requires rows { (image : Image) × (entry : ℕ) × AreRows image entry rows.now }
+    requires rows { HaveImage rows.now }
     requires unit { HasUnit rows.now address }
-    ensures { IfOk result (λ node. (image : Image) (entry : ℕ) → AreRows image entry rows.now →
-        AreReturning image rows.now returning.now.keys → IsNodeAt image address node) }
+    ensures { IfOk result (λ node. OfTheirImage rows.now (λ image entry.
+        AreReturning image rows.now returning.now.keys → IsNodeAt image address node)) }
 {
     let Some(row) = row_at(rows, address) else {
         unreachable!();
@@ -116,10 +114,10 @@ pub fn nodes_of(
     returning: &BTreeSet<u32>,
     addresses: &[u32],
 ) -> Result<List<Unit>, AllocError>
-    requires rows { (image : Image) × (entry : ℕ) × AreRows image entry rows.now }
+    requires rows { HaveImage rows.now }
     requires units { All (HasUnit rows.now) addresses.now }
-    ensures { IfOk result (λ nodes. (image : Image) (entry : ℕ) → AreRows image entry rows.now →
-        AreReturning image rows.now returning.now.keys → AllZip (IsNodeAt image) addresses.now nodes) }
+    ensures { IfOk result (λ nodes. OfTheirImage rows.now (λ image entry.
+        AreReturning image rows.now returning.now.keys → AllZip (IsNodeAt image) addresses.now nodes)) }
 {
     let mut nodes = List::new(alloc);
     for address in addresses {

@@ -5,7 +5,7 @@ ghost use Rattle.elf_mips.specs.declared.image.Image.{Image};
 ghost use Rattle.net_model.specs.Targets.{unit_at};
 ghost use Rattle.unit_graph.specs.Firsts.{IsFirstFaulty};
 ghost use Rattle.unit_graph.specs.Graphs.{AreJust};
-ghost use Rattle.unit_graph.specs.Rows.{AreRows, HasRow, IsRow, Rise};
+ghost use Rattle.unit_graph.specs.Rows.{AreRows, HasRow, IsRow, OfSharedImage, Rise};
 ghost use Rattle.unit_graph.specs.Search.{Sees};
 
 use crate::first::{Offence, first_fault};
@@ -33,7 +33,7 @@ pub struct Program {
     pub functions: Vec<u32>,
 }
 
-ghost use Rattle.unit_graph.specs.Program.{CalledFrom, IsAnyFunction, IsProgram, RowCalls};
+ghost use Rattle.unit_graph.specs.Program.{CalledFrom, HasImage, IsAnyFunction, IsProgram, OfImage, RowCalls};
 
 /// Sees what the unit at an address calls.
 fn see_calls(
@@ -43,7 +43,8 @@ fn see_calls(
     waiting: &mut Vec<u32>,
 ) -> Result<(), AllocError>
     requires { Rise rows.now }
-    ensures { OnOk result (Sees (RowCalls rows.now address) seen.old.keys waiting.old.items seen.new.keys waiting.new.items) }
+    ensures { OnOk result (Sees (RowCalls rows.now address)
+        seen.old.keys waiting.old.items seen.new.keys waiting.new.items) }
 {
     let Some(row) = row_at(rows, address) else {
         return Ok(());
@@ -60,7 +61,8 @@ pub fn see_all_calls(
     waiting: &mut Vec<u32>,
 ) -> Result<(), AllocError>
     requires { Rise rows.now }
-    ensures { OnOk result (Sees (CalledFrom rows.now code.now) seen.old.keys waiting.old.items seen.new.keys waiting.new.items) }
+    ensures { OnOk result (Sees (CalledFrom rows.now code.now)
+        seen.old.keys waiting.old.items seen.new.keys waiting.new.items) }
 {
     for address in code {
         see_calls(rows, *address, seen, waiting)?;
@@ -110,7 +112,7 @@ pub fn explore(alloc: Global, image: &Image, entry: u32) -> Result<Program, Allo
 fn content_of(rows: &[Row], address: u32) -> Content
     requires rising { Rise rows.now }
     requires there { HasRow rows.now address }
-    ensures { (image : Image) → All (IsRow image) rows.now → result ≡ unit_at image address }
+    ensures { OfSharedImage rows.now (λ image. result ≡ unit_at image address) }
 {
     let Some(row) = row_at(rows, address) else {
         unreachable!();
@@ -122,8 +124,8 @@ fn content_of(rows: &[Row], address: u32) -> Content
 fn contents_of(alloc: Global, rows: &[Row], addresses: &[u32]) -> Result<Vec<Content>, AllocError>
     requires rising { Rise rows.now }
     requires there { All (HasRow rows.now) addresses.now }
-    ensures { IfOk result (λ contents. (image : Image) → All (IsRow image) rows.now →
-        contents.items ≡ map (unit_at image) addresses.now) }
+    ensures { IfOk result (λ contents.
+        OfSharedImage rows.now (λ image. contents.items ≡ map (unit_at image) addresses.now)) }
 {
     let mut contents = Vec::new(alloc);
     for address in addresses {
@@ -134,9 +136,8 @@ fn contents_of(alloc: Global, rows: &[Row], addresses: &[u32]) -> Result<Vec<Con
 
 /// The first fault of what stands at the addresses that the functions reach.
 pub fn first_faulty(alloc: Global, program: &Program) -> Result<Option<Offence>, AllocError>
-    requires { (image : Image) × (entry : ℕ) × IsProgram image entry program.now }
-    ensures { IfOk result (λ first. (image : Image) (entry : ℕ) → IsProgram image entry program.now →
-        IsFirstFaulty image entry first) }
+    requires { HasImage program.now }
+    ensures { IfOk result (λ first. OfImage program.now (λ image entry. IsFirstFaulty image entry first)) }
 {
     let contents = contents_of(alloc, &program.rows, &program.code)?;
     Ok(first_fault(&contents))

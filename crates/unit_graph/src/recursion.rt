@@ -5,9 +5,9 @@ ghost use Rattle.elf_mips.specs.declared.image.Image.{Image};
 ghost use Rattle.step_table.specs.Table.{IsWithin};
 ghost use Rattle.unit_graph.specs.Flow.{Leads};
 ghost use Rattle.unit_graph.specs.Graphs.{AreJust};
-ghost use Rattle.unit_graph.specs.Program.{CalledIn, IsProgram};
+ghost use Rattle.unit_graph.specs.Program.{CalledIn, HasImage, IsProgram, OfImage};
 ghost use Rattle.unit_graph.specs.Recursion.{IsCallTable, IsFirstRecursive};
-ghost use Rattle.unit_graph.specs.Rows.{IsRow, Rise};
+ghost use Rattle.unit_graph.specs.Rows.{IsRow, Rise, ShareImage};
 
 use crate::flow::{Reach, led_from};
 use crate::program::{Program, see_all_calls};
@@ -26,7 +26,7 @@ fn calls_in(
     function: u32,
 ) -> Result<Vec<u32>, AllocError>
     requires rising { Rise rows.now }
-    requires each { (image : Image) × All (IsRow image) rows.now }
+    requires each { ShareImage rows.now }
     ensures { IfOk result (λ calls. AreJust (CalledIn rows.now returning.now.keys function) calls.items) }
 {
     let led = led_from(alloc, rows, Reach::Function, returning, function)?;
@@ -45,7 +45,7 @@ fn call_table(
     functions: &[u32],
 ) -> Result<Vec<List<usize>>, AllocError>
     requires rising { Rise rows.now }
-    requires each { (image : Image) × All (IsRow image) rows.now }
+    requires each { ShareImage rows.now }
     requires ordered { AllPairs (λ a b. a < b) functions.now }
     ensures { IfOk result (λ table. IsCallTable rows.now returning.now.keys functions.now functions.now table.items) }
 {
@@ -61,9 +61,8 @@ fn call_table(
 ///
 /// Each function is looked at once more, and the calls are searched in time in proportion to their number.
 pub fn first_recursive(alloc: Global, program: &Program) -> Result<Option<u32>, AllocError>
-    requires { (image : Image) × (entry : ℕ) × IsProgram image entry program.now }
-    ensures { IfOk result (λ first. (image : Image) (entry : ℕ) → IsProgram image entry program.now →
-        IsFirstRecursive image entry first) }
+    requires { HasImage program.now }
+    ensures { IfOk result (λ first. OfImage program.now (λ image entry. IsFirstRecursive image entry first)) }
 {
     let functions = program.functions.as_slice();
     let table = call_table(alloc, &program.rows, &program.returning, functions)?;

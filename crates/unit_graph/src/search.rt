@@ -37,7 +37,8 @@ pub fn see_all(
     seen: &mut BTreeSet<u32>,
     waiting: &mut Vec<u32>,
 ) -> Result<(), AllocError>
-    ensures { OnOk result (Sees (Contains addresses.now) seen.old.keys waiting.old.items seen.new.keys waiting.new.items) }
+    ensures { OnOk result (Sees (Contains addresses.now)
+        seen.old.keys waiting.old.items seen.new.keys waiting.new.items) }
 {
     for address in addresses {
         see(*address, seen, waiting)?;
@@ -51,7 +52,8 @@ pub fn see_targets(
     seen: &mut BTreeSet<u32>,
     waiting: &mut Vec<u32>,
 ) -> Result<(), AllocError>
-    ensures { OnOk result (Sees (Contains (map (λ mark. mark.x) marks.now)) seen.old.keys waiting.old.items seen.new.keys waiting.new.items) }
+    ensures { OnOk result (Sees (Contains (map (λ mark. mark.x) marks.now))
+        seen.old.keys waiting.old.items seen.new.keys waiting.new.items) }
 {
     for mark in marks {
         see(mark.x, seen, waiting)?;

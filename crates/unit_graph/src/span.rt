@@ -36,7 +36,8 @@ fn see_from(
     waiting: &mut Vec<u32>,
 ) -> Result<(), AllocError>
     requires { AreTargets image.now targets.now }
-    ensures { OnOk result (Sees (MayLeadAt image.now address) seen.old.keys waiting.old.items seen.new.keys waiting.new.items) }
+    ensures { OnOk result (Sees (MayLeadAt image.now address)
+        seen.old.keys waiting.old.items seen.new.keys waiting.new.items) }
 {
     let row = row_of(alloc, image, targets, address)?;
     see_far(&row, seen, waiting)?;

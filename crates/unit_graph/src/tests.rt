@@ -1,4 +1,5 @@
-//! Graphs of short functions without calls, with their onward units worked out by the MIPS I manual, and each order of faults.
+//! Graphs of short functions without calls, with their onward units worked out by the MIPS I manual, and each order of
+//! faults.
 
 use crate::{CodeFault, CodeKind, Graphs, Unit, function_graphs};
 use elf_mips::{Image, read_image};

@@ -11,4 +11,4 @@ returns c =
     let own = callees c.args.image.now unit.instr c.args.address in
     IfOk-set (called c.args.image.now unit c.args.address) (listed c.own_callee.result) c.list_of.result c.list_of.ensures
     (IsSetOf-unless (stops unit) own (listed c.own_callee.result) (sym c.stops.ensures ∙ c.if-stops.false)
-    (c.own_callee.ensures c.args.image.now (sym c.is_register_call.ensures ∙ c.if-is_register_call.false)))
+    (c.own_callee.ensures c.args.image.now))

@@ -11,4 +11,4 @@ returns c =
     let own = own_ways c.args.image.now unit.instr c.args.address in
     IfOk-set (ways_on c.args.image.now unit c.args.address) (listed c.own_ways.result) c.list_of.result c.list_of.ensures
     (IsSetOf-unless (stops unit) own (listed c.own_ways.result) (sym c.stops.ensures ∙ c.if-stops.false)
-    (c.own_ways.ensures c.args.image.now (sym c.is_indirect.ensures ∙ c.if-is_indirect.false)))
+    (c.own_ways.ensures c.args.image.now))
