@@ -123,26 +123,6 @@ fn the_same_keys_in_other_forms(rt: HostRuntime) -> Result<(), Fail> {
 }
 
 #[test]
-fn a_cache_is_not_built(rt: HostRuntime) -> Result<(), Fail> {
-    for (text, want) in [
-        ("cache = []", true),
-        ("cache = 5", true),
-        ("cache = \"fetch\"", true),
-        ("cache.sets = 3", true),
-        ("[[cache]]\nserves = \"fetch\"\nspeed = -1", true),
-        ("memory = 1", false),
-        ("entry = \"cache\"", false),
-    ] {
-        let unbuilt = match read(rt.alloc(), text.as_bytes()) {
-            Some(profile) => profile.unbuilt,
-            None => !want,
-        };
-        assert_eq!(rt; unbuilt, want, "at {text}");
-    }
-    Ok(())
-}
-
-#[test]
 fn an_entry_may_have_any_name(rt: HostRuntime) -> Result<(), Fail> {
     for (text, want) in [
         ("entry = \"\"", ""),
