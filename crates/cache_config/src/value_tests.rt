@@ -54,7 +54,8 @@ fn a_text_without_keys_gives_the_defaults(rt: HostRuntime) -> Result<(), Fail> {
             (profile.stack_top, profile.stack_size),
             (0x7FFF_0000, 65_536)
         );
-        assert!(rt; profile.gp.is_none() && profile.entry.is_none() && !profile.unbuilt);
+        assert!(rt; profile.gp.is_none() && profile.entry.is_none());
+        assert!(rt; profile.levels.as_slice().is_empty());
         assert!(rt; profile.regions.as_slice().is_empty());
         assert_eq!(rt; costs(&profile.cycles), [1; 10]);
     }
