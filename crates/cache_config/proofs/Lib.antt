@@ -1,5 +1,6 @@
 -- Lemmas on profiles.
 pub mod ValueLemmas
+pub mod StageLemmas
 pub mod FirstLemmas
 pub mod OrderLemmas
 pub mod EmptyLemmas

@@ -60,7 +60,7 @@ defaults-of p reads =
       entry = reads.entry;
       cycles = costs p.cycles reads.cycles;
       regions = no-regions p.regions reads.regions;
-      unbuilt = reads.unbuilt;
+      levels = reads.levels;
     }
 
 pub empty-defaults : (p : Profile) → IsProfileOf [] p → HasDefaults p

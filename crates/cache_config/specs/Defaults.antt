@@ -1,5 +1,5 @@
 -- The profile with the default of each number.
-use Rattle.std.specs.Prelude.{◌≡◌, [], None, false}
+use Rattle.std.specs.Prelude.{◌≡◌, [], None}
 use Rattle.cache_config.specs.Costs.{EachTakes}
 use Rattle.cache_config.specs.declared.profile.Profile.{Profile}
 
@@ -15,4 +15,4 @@ pub record HasDefaults (p : Profile) : Type 0 where
   pub entry : p.entry ≡ None
   pub cycles : EachTakes 1 p.cycles
   pub regions : p.regions ≡ []
-  pub unbuilt : p.unbuilt ≡ false
+  pub levels : p.levels ≡ []

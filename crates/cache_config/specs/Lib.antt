@@ -1,5 +1,6 @@
 -- What the contracts on profiles say.
 pub mod Limits
+pub mod Chains
 pub mod Costs
 pub mod Keys
 pub mod Values

@@ -12,7 +12,7 @@ use Rattle.cache_config.specs.declared.profile.Region.{Region}
 use Rattle.cache_config.specs.declared.spans.Span.{Span}
 use Rattle.cache_config.specs.Keys.{cost_row, gp_row, memory_row, splits_row, stack_size_row, stack_top_row, steps_row, store_row}
 use Rattle.cache_config.specs.Faults.{IsFirst, profile_faults}
-use Rattle.cache_config.specs.Values.{costs_of, entry_of, has_cache, number_at, regions_of, span_of, value_of}
+use Rattle.cache_config.specs.Values.{costs_of, entry_of, number_at, regions_of, span_of, value_of}
 use Rattle.std.specs.Prelude.{codes}
 
 -- The text is a TOML document in UTF-8, and these are its members.
@@ -49,7 +49,7 @@ pub record ReadsAs (ms : Members) (p : Profile) : Type 0 where
   pub entry : p.entry ≡ entry_of ms
   pub cycles : ReadsCosts (costs_of ms) p.cycles
   pub regions : map (λ r. Some (span r)) p.regions ≡ map span_of (regions_of ms)
-  pub unbuilt : p.unbuilt ≡ has_cache ms
+  pub levels : p.levels ≡ []
 
 -- The text has no fault, and it gives this profile.
 pub record IsProfileOf (text : List ℕ) (p : Profile) : Type 0 where

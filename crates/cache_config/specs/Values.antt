@@ -7,7 +7,7 @@ use Rattle.cache_config.specs.declared.keys.Kind.TheVariants.{Number, Eights, Te
 use Rattle.cache_config.specs.declared.keys.Absent.{Absent}
 use Rattle.cache_config.specs.declared.keys.Absent.TheVariants.{Default, Nothing, Required}
 use Rattle.cache_config.specs.declared.spans.Span.{Span}
-use Rattle.cache_config.specs.Keys.{Row, cycles_row, entry_row, region_row, size_row, stack_size_row, stack_top_row, start_row, cache_row}
+use Rattle.cache_config.specs.Keys.{Row, cycles_row, entry_row, region_row, size_row, stack_size_row, stack_top_row, start_row}
 use Rattle.cache_config.specs.Limits.{area_above, most_regions}
 
 -- The integer as a number from least to most; none where it isn't one.
@@ -88,10 +88,6 @@ costs_of ms = members_at cycles_row.name ms
 
 abbrev pub regions_of : Members → List Data
 regions_of ms = elements_at region_row.name ms
-
--- The key `cache` is there, whatever stands under it.
-abbrev pub has_cache : Members → Bool
-has_cache ms = is_some (get_member cache_row.name ms)
 
 -- The addresses of the stack with the area above it, where `stack_top` and `stack_size` are within
 -- their own limits and the stack begins at 0 or above.

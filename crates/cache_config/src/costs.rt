@@ -1,97 +1,79 @@
 //! What instructions and accesses cost under a profile.
 
-ghost use Rattle.std.specs.Prelude.{◌≡◌, ◌≤◌};
+ghost use Rattle.std.specs.Prelude.{◌≡◌, ◌≤◌, ◌∷◌, ◌++◌, [], All, map, slice_index_or};
+ghost use Rattle.cache_config.specs.Instructions.{cycles_of};
+ghost use Rattle.cache_config.specs.Limits.{most_cycles};
+ghost use Rattle.lru_concrete.specs.Chains.{chain};
+ghost use Rattle.lru_concrete.specs.declared.level.Level.{Level};
 ghost use Rattle.mips_decode.specs.Columns.{class_of};
 ghost use Rattle.mips_decode.specs.Table.{IsValid};
-ghost use Rattle.cache_config.specs.Instructions.{class_cost, cycles_of, stage_latency};
-ghost use Rattle.cache_config.specs.Limits.{most_cycles};
 
+use crate::chains::side_of;
 use crate::profile::{Cycles, Profile};
+use lru_concrete::{Level, Side};
 use mips_decode::{AccessKind, CostClass, Instr};
-use std::marker::Model;
 
-/// The cycles of each class of instructions, and the latencies of a store and of memory.
-#[derive(Debug, Drop)]
-pub struct Costs {
-    cycles: Cycles,
-    store: u64,
-    memory: u64,
-}
-
-impl Model for Costs {
-    ghost use Rattle.std.specs.Prelude.{◌≤◌};
-    ghost use Rattle.cache_config.specs.Instructions.{Costs};
-    ghost use Rattle.cache_config.specs.Limits.{most_cycles};
-
-    ghost Value = { Costs };
-
-    ghost view = { λ c. record { cycles = c.cycles; store = c.store; memory = c.memory } };
-
-    ghost invariant = { λ c. (c.store ≤ most_cycles) × (c.memory ≤ most_cycles) };
-}
-
-impl Costs {
-    ghost use Rattle.cache_config.specs.Instructions.{costs_of};
-
-    /// The costs of a profile.
-    pub fn of_profile(profile: &Profile) -> Costs
-        ensures { result ≡ costs_of profile.now }
-    {
-        Costs {
-            cycles: profile.cycles,
-            store: profile.store,
-            memory: profile.memory,
-        }
-    }
-
-    /// The cycles of an instruction's class.
+impl Cycles {
+    /// The cycles of an instruction, which are those of its class: 1 to 1,000,000, without its accesses of memory.
     pub fn instruction(&self, instr: &Instr) -> u64
         requires { IsValid instr.now }
-        ensures value { result ≡ class_cost self.now instr.now }
+        ensures value { result ≡ cycles_of self.now (class_of instr.now) }
         ensures some { 1 ≤ result }
         ensures small { result ≤ most_cycles }
     {
-        class_cycles(&self.cycles, mips_decode::cost_class(instr))
-    }
-
-    /// The latency of a store, in cycles. It goes through no chain.
-    pub fn store(&self) -> u64
-        ensures value { result ≡ self.now.store }
-        ensures small { result ≤ most_cycles }
-    {
-        self.store
-    }
-
-    /// The latency of a stage of the chain of an access, in cycles. Stages count from 1, and the last one is memory;
-    /// 0 where the chain has no such stage.
-    pub fn stage(&self, kind: AccessKind, stage: u32) -> u64
-        ensures value { result ≡ stage_latency self.now kind stage }
-        ensures small { result ≤ most_cycles }
-    {
-        match kind {
-            AccessKind::Store => 0,
-            _ if stage == 1 => self.memory,
-            _ => 0,
+        match mips_decode::cost_class(instr) {
+            CostClass::Alu => self.alu,
+            CostClass::Shift => self.shift,
+            CostClass::Mult => self.mult,
+            CostClass::Div => self.div,
+            CostClass::Move => self.hilo,
+            CostClass::Load => self.load,
+            CostClass::Store => self.store,
+            CostClass::Branch => self.branch,
+            CostClass::Jump => self.jump,
+            CostClass::Stop => self.stop,
         }
     }
 }
 
-/// The cycles of a class.
-fn class_cycles(cycles: &Cycles, class: CostClass) -> u64
-    ensures value { result ≡ cycles_of cycles.now class }
-    ensures some { 1 ≤ result }
+/// The latency of the stage after `before` others, in cycles: the caches of a side, then memory; 0 past memory.
+fn latency_after(levels: &[Level], side: Side, memory: u64, before: u32) -> u64
+    requires { memory ≤ most_cycles }
+    ensures value { result
+        ≡ slice_index_or (map (λ (l : Level). l.latency) (chain side levels.now) ++ (memory ∷ [])) before 0 }
     ensures small { result ≤ most_cycles }
 {
-    match class {
-        CostClass::Alu => cycles.alu,
-        CostClass::Shift => cycles.shift,
-        CostClass::Mult => cycles.mult,
-        CostClass::Div => cycles.div,
-        CostClass::Move => cycles.hilo,
-        CostClass::Load => cycles.load,
-        CostClass::Store => cycles.store,
-        CostClass::Branch => cycles.branch,
-        CostClass::Jump => cycles.jump,
-        CostClass::Stop => cycles.stop,
+    let mut before = before;
+    for level in levels {
+        if level.serves.serves(side) {
+            if before == 0 {
+                return level.latency;
+            }
+            before -= 1;
+        }
+    }
+    if before == 0 { memory } else { 0 }
+}
+
+impl Profile {
+    ghost use Rattle.cache_config.specs.Instructions.{costs_of, stage_latency};
+
+    /// The latency of a stage that an access of a kind may visit, in cycles: at most 1,000,000.
+    ///
+    /// Stages count from 1: the caches that the access goes through, in the profile's order, then memory. 0 where there
+    /// is no such stage, and for a store, which visits none.
+    pub fn stage_latency(&self, kind: AccessKind, stage: u32) -> u64
+        ensures value { result ≡ stage_latency (costs_of self.now) kind stage }
+        ensures small { result ≤ most_cycles }
+    {
+        match side_of(kind) {
+            Some(side) if stage > 0 => latency_after(
+                self.levels.as_slice(),
+                side,
+                self.memory,
+                stage - 1,
+            ),
+            _ => 0,
+        }
     }
 }

@@ -1,6 +1,7 @@
 //! Profiles: what a machine's instructions and memory cost, and where a program's data may lie.
 #![tactic(auto)]
 
+mod chains;
 mod checks;
 mod costs;
 mod fault;
@@ -12,7 +13,6 @@ mod read;
 mod spans;
 mod values;
 
-pub use costs::Costs;
 pub use fault::ConfigFault;
 pub use profile::{Cycles, Profile, Region};
 pub use read::read_profile;

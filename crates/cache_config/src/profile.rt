@@ -1,8 +1,11 @@
 //! The profile of a machine: its costs, its stack and its regions of memory.
 
 ghost use Rattle.std.specs.Prelude.{◌≡◌, ◌+◌, ◌%◌, ◌<◌, ◌≤◌, [], All, AllPairs, length};
+ghost use Rattle.cache_config.specs.Chains.{AreShort};
 ghost use Rattle.cache_config.specs.Limits.{AreApart, IsCost, IsOffStack, area_above, least_stack, memory_end, most_bytes, most_cycles, most_regions, most_splits, most_steps};
+ghost use Rattle.lru_concrete.specs.Limits.{most_levels};
 
+use lru_concrete::Level;
 use std::alloc::Global;
 use wcet_io::List;
 
@@ -102,8 +105,8 @@ pub struct Profile {
     pub cycles: Cycles,
     /// The further regions of memory, at most 16, apart from each other and from the stack.
     pub regions: List<Region>,
-    /// Whether the text has the key `cache`, which isn't built yet.
-    pub unbuilt: bool,
+    /// The caches in the order in which accesses go through them: at most 6, and at most 3 in each chain.
+    pub levels: List<Level>,
     pub ghost memory_limit: { memory ≤ most_cycles },
     pub ghost store_limit: { store ≤ most_cycles },
     pub ghost splits_limit: { splits ≤ most_splits },
@@ -117,11 +120,13 @@ pub struct Profile {
     pub ghost stack_fits: { stack_size ≤ stack_top },
     pub ghost regions_limit: { length regions ≤ most_regions },
     pub ghost off_stack: { All (λ r. IsOffStack stack_top stack_size r.start r.size) regions },
+    pub ghost levels_few: { length levels ≤ most_levels },
+    pub ghost chains_short: { AreShort levels },
     pub ghost apart: { AllPairs (λ r s. AreApart r.start r.size s.start s.size) regions },
 }
 
 impl Profile {
-    ghost use Rattle.std.specs.Prelude.{None, false};
+    ghost use Rattle.std.specs.Prelude.{None};
     ghost use Rattle.cache_config.specs.Costs.{EachTakes};
 
     /// The profile with the default of each number, no caches and no further regions.
@@ -138,7 +143,7 @@ impl Profile {
         ensures entry { result.entry ≡ None }
         ensures cycles { EachTakes 1 result.cycles }
         ensures regions { result.regions ≡ [] }
-        ensures unbuilt { result.unbuilt ≡ false }
+        ensures levels { result.levels ≡ [] }
     {
         Profile {
             memory: 10,
@@ -151,7 +156,7 @@ impl Profile {
             entry: None,
             cycles: Cycles::each(1),
             regions: List::new(alloc),
-            unbuilt: false,
+            levels: List::new(alloc),
         }
     }
 }

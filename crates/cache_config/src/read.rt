@@ -13,8 +13,8 @@ ghost use Rattle.cache_config.specs.Values.{entry_of, number_at, span_of, value_
 use crate::fault::{ConfigFault, FaultKind};
 use crate::first::first_fault;
 use crate::keys::{
-    ALU, BRANCH, CACHE, CYCLES, DIV, ENTRY, GP, JUMP, LOAD, MEMORY, MOVE, MULT, REGION, SHIFT,
-    SPLITS, STACK_SIZE, STACK_TOP, STEPS, STOP, STORE, STORES,
+    ALU, BRANCH, CYCLES, DIV, ENTRY, GP, JUMP, LOAD, MEMORY, MOVE, MULT, REGION, SHIFT, SPLITS,
+    STACK_SIZE, STACK_TOP, STEPS, STOP, STORE, STORES,
 };
 use crate::profile::{Cycles, Profile, Region};
 use crate::spans::{Span, is_misplaced, span_of, stack_of};
@@ -127,7 +127,7 @@ fn read_values(alloc: Global, table: &Table) -> Result<Profile, AllocError>
         entry,
         cycles,
         regions,
-        unbuilt: member(table, CACHE.name).is_some(),
+        levels: List::new(alloc),
     })
 }
 

@@ -54,7 +54,8 @@ fn a_text_without_keys_gives_the_defaults(rt: HostRuntime) -> Result<(), Fail> {
             (profile.stack_top, profile.stack_size),
             (0x7FFF_0000, 65_536)
         );
-        assert!(rt; profile.gp.is_none() && profile.entry.is_none() && !profile.unbuilt);
+        assert!(rt; profile.gp.is_none() && profile.entry.is_none());
+        assert!(rt; profile.levels.as_slice().is_empty());
         assert!(rt; profile.regions.as_slice().is_empty());
         assert_eq!(rt; costs(&profile.cycles), [1; 10]);
     }
@@ -118,26 +119,6 @@ fn the_same_keys_in_other_forms(rt: HostRuntime) -> Result<(), Fail> {
         for region in regions {
             assert_eq!(rt; parts(region), (64, 32), "at {text}");
         }
-    }
-    Ok(())
-}
-
-#[test]
-fn a_cache_is_not_built(rt: HostRuntime) -> Result<(), Fail> {
-    for (text, want) in [
-        ("cache = []", true),
-        ("cache = 5", true),
-        ("cache = \"fetch\"", true),
-        ("cache.sets = 3", true),
-        ("[[cache]]\nserves = \"fetch\"\nspeed = -1", true),
-        ("memory = 1", false),
-        ("entry = \"cache\"", false),
-    ] {
-        let unbuilt = match read(rt.alloc(), text.as_bytes()) {
-            Some(profile) => profile.unbuilt,
-            None => !want,
-        };
-        assert_eq!(rt; unbuilt, want, "at {text}");
     }
     Ok(())
 }

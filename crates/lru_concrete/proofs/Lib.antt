@@ -1,4 +1,5 @@
 -- Lemmas on the slots of a cache, on touches, and on chains of caches.
+pub mod Kept
 pub mod Moving
 pub mod Ordering
 pub mod Slotted

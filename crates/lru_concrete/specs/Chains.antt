@@ -1,5 +1,5 @@
 -- The caches of a machine, and what an access does to them (Hardy and Puaut 2008: caches that don't include one another).
-use Rattle.std.specs.Prelude.{◌≡◌, ℕ, zero, suc, ◌+◌, Bool, true, false, List, [], ◌∷◌, filter, map, sum_by, take, if◌then◌else◌}
+use Rattle.std.specs.Prelude.{◌≡◌, ℕ, zero, suc, ◌+◌, Bool, true, false, List, [], ◌∷◌, filter, map, replicate, sum_by, take, if◌then◌else◌}
 use Rattle.std.specs.List.{AllZip}
 use Rattle.lru_concrete.specs.declared.level.Level.{Level}
 use Rattle.lru_concrete.specs.declared.level.Serves.{Serves}
@@ -24,6 +24,10 @@ pub record Held : Type 0 where
 
 abbrev pub levels_of : List Held → List Level
 levels_of caches = map (λ (cache : Held). cache.level) caches
+
+-- A cache that holds no blocks.
+abbrev pub empty_of : Level → Held
+empty_of level = record { level = level; blocks = replicate level.shape.sets [] }
 
 -- Caches of these levels, with these contents.
 abbrev pub held_of : List Level → List Content → List Held

@@ -1,7 +1,7 @@
 //! The caches of a machine, and an access that goes through them.
 
-ghost use Rattle.std.specs.Prelude.{◌≡◌, ◌≤◌, length, take, IfOk};
-ghost use Rattle.lru_concrete.specs.Chains.{AreOfLevels, Hierarchy, chain, goes, held_of, latencies, levels_of, visit_of};
+ghost use Rattle.std.specs.Prelude.{◌≡◌, ◌*◌, ◌≤◌, length, map, take, IfOk};
+ghost use Rattle.lru_concrete.specs.Chains.{AreOfLevels, Hierarchy, chain, empty_of, goes, held_of, latencies, levels_of, visit_of};
 ghost use Rattle.lru_concrete.specs.Limits.{most_latency, most_levels};
 ghost use Rattle.lru_concrete.specs.Walks.{IsVisit};
 
@@ -84,12 +84,39 @@ impl Caches {
         })
     }
 
+    /// Caches of these levels that hold no blocks.
+    pub fn empty(alloc: Global, levels: &[Level], memory: u64) -> Result<Caches, AllocError>
+        requires few { length levels.now ≤ most_levels }
+        requires memory { memory ≤ most_latency }
+        ensures { IfOk result (λ c. c ≡ record { caches = map empty_of levels.now; memory = memory }) }
+    {
+        let mut caches = Vec::new(alloc);
+        for level in levels {
+            caches.push(Cache::empty(alloc, level.shape)?)?;
+        }
+        let levels = Vec::from_slice(alloc, levels)?;
+        Caches::new(
+            alloc,
+            List::from_vec(levels),
+            List::from_vec(caches),
+            memory,
+        )
+    }
+
+    /// The levels of the caches, in their order.
+    pub fn levels(&self) -> &[Level]
+        ensures { result.now ≡ levels_of self.now.caches }
+    {
+        &self.levels
+    }
+
     /// Lets an access go through the caches that serve its side, up to the first one that holds its block, else to
     /// memory, and tells what it visited. Each visited cache is touched.
     pub fn access(&mut self, side: Side, address: u32) -> Visit
         ensures visit { result
             ≡ visit_of side (levels_of self.old.caches) self.old.memory (goes side address self.old.caches).visit }
         ensures after { self.new ≡ record self.old { caches = (goes side address self.old.caches).after } }
+        ensures low { result.cycles ≤ 7 * most_latency }
     {
         let mut visit = visit(&self.levels, &mut self.caches, side, address);
         if !visit.hit {

@@ -80,9 +80,7 @@ fn full_set_drops_its_oldest_block(rt: HostRuntime) -> Result<(), Fail> {
 
 /// The caches of one level.
 fn alone(alloc: Global, level: Level) -> Result<Caches, AllocError> {
-    let caches = List::from_vec(vec![in alloc; Cache::empty(alloc, level.shape)?]?);
-    let levels = List::from_vec(vec![in alloc; level]?);
-    Caches::new(alloc, levels, caches, 10)
+    Caches::empty(alloc, &[level], 10)
 }
 
 #[test]

@@ -8,6 +8,7 @@ pub mod AccessLemmas
 pub mod EffectLemmas
 pub mod FillLemmas
 pub mod StartLemmas
+pub mod TallyLemmas
 pub mod CodeLemmas
 pub mod KeptCode
 pub mod RunLemmas

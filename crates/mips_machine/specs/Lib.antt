@@ -3,6 +3,8 @@ pub mod Region
 pub mod Image
 pub mod Index
 pub mod Places
+pub mod Passing
+pub mod Tallies
 pub mod Machine
 pub mod Run
 pub mod Units

@@ -1,6 +1,7 @@
 //! The machine: it runs a program's units one after the other and counts their cycles.
 #![tactic(auto)]
 
+mod caches;
 mod clash;
 mod cost;
 mod fill;
@@ -14,6 +15,7 @@ mod region;
 mod tests;
 mod unit;
 
+pub use caches::Tally;
 pub use clash::has_clash;
 pub use fill::Fill;
 pub use fillable::are_fillable;

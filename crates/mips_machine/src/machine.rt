@@ -1,6 +1,6 @@
 //! The machine and the step of one unit.
 
-ghost use Rattle.std.specs.Prelude.{◌≡◌, ℕ, ◌+◌, ◌<◌, ◌≤◌, ◌^◌, All, IfErr, IfOk, IfSome, List, OnErr, Option, length, slice_index};
+ghost use Rattle.std.specs.Prelude.{◌≡◌, ℕ, ◌+◌, ◌<◌, ◌≤◌, ◌^◌, All, IfErr, IfOk, IfSome, List, OnErr, Option, length, slice_index, slice_index_or};
 ghost use Rattle.mips_decode.specs.declared.instr.Instr.{Instr};
 ghost use Rattle.mips_decode.specs.declared.step.Touched.{Touched};
 ghost use Rattle.mips_decode.specs.State.{State, code_at, return_address};
@@ -9,13 +9,15 @@ ghost use Rattle.mips_decode.specs.Step.{plain_done, unit_of};
 ghost use Rattle.mips_machine.specs.Image.{HasNoClash, IsFillable, general_at_start, registers_at_start, regions_of, setting_of, with_fills};
 ghost use Rattle.mips_decode.specs.Table.{IsValid};
 
+use crate::caches::{TalliedCaches, Tally};
 use crate::cost::{plain_cycles, transfer_cycles};
 use crate::fill::Fill;
 use crate::memory::Memory;
 use crate::outcome::Outcome;
 use crate::unit::{execute, fetch};
-use cache_config::{Costs, Profile};
+use cache_config::{Cycles, Profile};
 use elf_mips::Image;
+use lru_concrete::Caches;
 use mips_decode::{Instr, Reg, Regs, Touched, TrapKind};
 use std::alloc::{AllocError, Global};
 use std::marker::Model;
@@ -23,7 +25,7 @@ use std::marker::Model;
 /// The place of return: the entry has returned when the next unit would be here.
 const RETURN_ADDRESS: u32 = 0xFFFF_FFF0;
 
-/// A program's registers, program counter and memory, with the cycles since its start.
+/// A program's registers, program counter, memory and caches, with the cycles since its start.
 #[derive(Debug, Drop)]
 pub struct Machine {
     regs: Regs,
@@ -31,11 +33,18 @@ pub struct Machine {
     memory: Memory,
     cycles: u64,
     last: Option<Touched>,
-    costs: Costs,
+    /// The cycles of each class of instructions.
+    classes: Cycles,
+    /// The latency of a store.
+    store: u64,
+    caches: TalliedCaches,
 }
 
 impl Model for Machine {
+    ghost use Rattle.std.specs.Prelude.{◌*◌, ◌≤◌};
+    ghost use Rattle.cache_config.specs.Limits.{most_cycles};
     ghost use Rattle.mips_machine.specs.Machine.{Machine};
+    ghost use Rattle.mips_machine.specs.Tallies.{AreAtMost};
 
     ghost Value = { Machine };
 
@@ -43,8 +52,12 @@ impl Model for Machine {
       values = record { regs = m.regs; pc = m.pc; regions = m.memory };
       cycles = m.cycles;
       last = m.last;
-      costs = m.costs;
+      classes = m.classes;
+      store = m.store;
+      caches = m.caches;
     } };
+
+    ghost invariant = { λ m. (m.store ≤ most_cycles) × AreAtMost (3 * m.cycles) m.caches.tallies };
 }
 
 /// Sets registers 0, 28, 29 and 31 as a start has them.
@@ -97,7 +110,8 @@ fn start_memory(
 }
 
 impl Machine {
-    ghost use Rattle.mips_machine.specs.Machine.{After, IsMachineStart, machine_at_start, moved, whole_step};
+    ghost use Rattle.mips_machine.specs.Machine.{After, AreCachesOf, IsMachineStart, machine_at_start, moved, whole_step};
+    ghost use Rattle.mips_machine.specs.Passing.{no_visits};
 
     /// The machine before the first unit at the entry.
     ///
@@ -105,7 +119,7 @@ impl Machine {
     /// bytes and the fills, of which a later one holds. The bytes of a fill lie in one region that can
     /// be written; a fill without bytes may stand anywhere. Registers 0, 28, 29 and 31 are set (zero, the
     /// global pointer where the profile has one, the stack's top, the place of return); the others are
-    /// the given ones.
+    /// the given ones. The caches are the profile's and hold what they hold; none of them was visited yet.
     pub fn start(
         alloc: Global,
         image: &Image,
@@ -113,11 +127,13 @@ impl Machine {
         entry: u32,
         regs: &Regs,
         memory: &[Fill],
+        caches: Caches,
     ) -> Result<Machine, AllocError>
         requires apart { HasNoClash image.now profile.now }
         requires fills { All (IsFillable (regions_of image.now profile.now)) memory.now }
+        requires caches { AreCachesOf profile.now caches }
         ensures state { IfOk result
-            (λ m. m ≡ machine_at_start image.now profile.now entry regs.now memory.now) }
+            (λ m. m ≡ machine_at_start image.now profile.now entry regs.now memory.now caches) }
         ensures start { IfOk result (IsMachineStart image.now profile.now entry) }
     {
         let memory = start_memory(alloc, image, profile, memory)?;
@@ -127,7 +143,9 @@ impl Machine {
             memory,
             cycles: 0,
             last: None,
-            costs: Costs::of_profile(profile),
+            classes: profile.cycles,
+            store: profile.store,
+            caches: TalliedCaches::new(alloc, caches)?,
         })
     }
 
@@ -150,8 +168,9 @@ impl Machine {
                 Ok(access) => access,
                 Err(kind) => return Outcome::Trap { kind, address: pc },
             };
-            let cycles = plain_cycles(&self.costs, &instr, &access);
-            return self.advance(pc + 4, cycles, access);
+            let cycles = plain_cycles(&self.classes, self.store, &instr, &access);
+            self.cycles += cycles + self.caches.plain(pc, &access);
+            return self.advance(pc + 4, access);
         };
         let slot = match fetch(&self.memory, pc + 4) {
             Ok(slot) => slot,
@@ -174,17 +193,16 @@ impl Machine {
             },
         };
         self.regs = regs;
-        let cycles = transfer_cycles(&self.costs, &instr, &slot, &access);
-        self.advance(way.next, cycles, access)
+        let cycles = transfer_cycles(&self.classes, self.store, &instr, &slot, &access);
+        self.cycles += cycles + self.caches.transfer(pc, &access);
+        self.advance(way.next, access)
     }
 
-    /// Goes to the next unit, after these cycles and this load or store.
-    fn advance(&mut self, next: u32, cycles: u64, access: Option<Touched>) -> Outcome
-        requires { self.old.cycles + cycles < 2 ^ 63 }
-        ensures { record { outcome = result; machine = self.new } ≡ moved self.old next cycles access }
+    /// Goes to the next unit, after this load or store.
+    fn advance(&mut self, next: u32, access: Option<Touched>) -> Outcome
+        ensures { record { outcome = result; machine = self.new } ≡ moved self.old next access }
     {
         self.pc = next;
-        self.cycles += cycles;
         self.last = access;
         if next == RETURN_ADDRESS {
             Outcome::Returned
@@ -219,5 +237,14 @@ impl Machine {
         ensures { result ≡ self.now.last }
     {
         self.last
+    }
+
+    /// How often accesses since the start visited a cache of the profile, counted from 0, and found their block there,
+    /// and how often they visited it and didn't.
+    pub fn tally(&self, cache: u32) -> Tally
+        requires { cache < length self.now.caches.held }
+        ensures { result ≡ slice_index_or self.now.caches.tallies cache no_visits }
+    {
+        self.caches.tally(cache)
     }
 }

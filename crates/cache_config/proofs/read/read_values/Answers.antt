@@ -42,5 +42,7 @@ invariant_of-result c =
       stack_fits = rw (c.value_of-5.ensures.value, c.value_of-6.ensures.value) free.fits;
       regions_limit = few_regions c.in_ok-regions.regions (regions_of ms) spans free.few;
       off_stack = all_off_stack c.value_of-5.result c.value_of-6.result c.in-Some.stack c.in_ok-regions.regions here c.in_ok-regions.ensures.off_stack;
+      levels_few = search rules;
+      chains_short = λ served. search rules;
       apart = c.in_ok-regions.ensures.apart;
     }
