@@ -105,7 +105,8 @@ fn note_element(
     first: &mut Option<Fault>,
 ) -> Result<(), AllocError>
     requires { at ≤ length values.now }
-    ensures { let faults = element_faults (tables_of tables) (rule_of joint) (map view values.now) at (view value.now) in
+    ensures { let all = map view values.now in
+        let faults = element_faults (tables_of tables) (rule_of joint) all at (view value.now) in
         OnOk result (Notes first.old faults first.new) }
 {
     note_shape(alloc, tables, at, value, first)?;

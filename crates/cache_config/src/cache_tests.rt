@@ -247,18 +247,11 @@ fn no_chain_has_more_than_three(rt: HostRuntime) -> Result<(), Fail> {
 #[test]
 fn a_cache_with_other_faults_counts(rt: HostRuntime) -> Result<(), Fail> {
     let alloc = rt.alloc();
-    let mut text = caches(alloc, &["load", "load", "load", "load"])?;
-    assert_eq!(rt; said(alloc, &text)?.as_str(), "range cache[3].serves");
+    let mut text = caches(alloc, &["load", "load", "load"])?;
+    // Its three sets are a fault too, at a greater path.
     text.extend_from_slice(
-        b"[[cache]]\nserves = \"load\"\nsets = 3\nways = 1\nline = 4\nlatency = 1\n",
+        b"[[cache]]\nserves = \"both\"\nsets = 3\nways = 1\nline = 4\nlatency = 1\n",
     )?;
     assert_eq!(rt; said(alloc, &text)?.as_str(), "range cache[3].serves");
-    // The third one has three sets, and the fourth one of the chain is answered in its turn.
-    let spoiled = b"cache = [\
-        { serves = 'load', sets = 1, ways = 1, line = 4, latency = 1 },\
-        { serves = 'load', sets = 1, ways = 1, line = 4, latency = 1 },\
-        { serves = 'load', sets = 1, ways = 1, line = 4, latency = 1 },\
-        { serves = 'load', sets = 3, ways = 1, line = 4, latency = 1 }]";
-    assert_eq!(rt; said(alloc, spoiled)?.as_str(), "range cache[3].serves");
     Ok(())
 }

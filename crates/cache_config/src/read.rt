@@ -115,7 +115,8 @@ fn read_regions(alloc: Global, stack: Span, values: &[Value]) -> Result<List<Reg
 fn read_levels(alloc: Global, values: &[Value]) -> Result<List<Level>, AllocError>
     requires few { length values.now ≤ most_levels }
     requires faultless { array_faults cache_tables chain_rule (map view values.now) ≡ [] }
-    ensures levels { IfOk result (λ ls. map (λ (l : Level). Some (cache l)) ls ≡ map cache_of (map view values.now)) }
+    ensures levels { IfOk result (λ ls.
+        map (λ (l : Level). Some (cache l)) ls ≡ map cache_of (map view values.now)) }
     ensures short { IfOk result AreShort }
 {
     let mut levels = List::new(alloc);
