@@ -1,13 +1,12 @@
 -- What holds while the caches of the elements are read, before the element of this number.
-use Rattle.std.proofs.Common.{◌≡◌, ℕ, suc, ◌+◌, ◌<◌, ◌≤◌, Bool, true, false, ◌&&◌, nat_le, List, [], ◌∷◌, ◌++◌, length, map, get_or, take, drop, Option, Some, None, refl, sym, ◌∙◌, ap, arith, unwrap_or, is_some, filter, option_map, option_and_then, if◌then◌else◌}
+use Rattle.std.proofs.Common.{◌≡◌, ℕ, suc, ◌+◌, ◌<◌, ◌≤◌, Bool, true, false, ◌&&◌, nat_le, List, [], ◌∷◌, ◌++◌, length, map, get_or, take, drop, Option, Some, None, refl, sym, ap, arith, unwrap_or, is_some, filter, option_and_then, if◌then◌else◌}
 use Rattle.std.proofs.lemmas.Bool.{false≢true, or_parts}
 use Rattle.std.proofs.lemmas.Bool.Decides.{nat_tests}
 use Rattle.std.proofs.lemmas.List.{take_more, map-append}
-use Rattle.std.specs.Option.{option_map_or}
 use Rattle.toml.specs.Data.{Data, Members, as_table}
 use Rattle.toml.specs.View.{view}
 use Rattle.toml.specs.declared.value.Value.{Value}
-use Rattle.cache_config.specs.Caches.{Cache, cache, cache_by, cache_in, cache_of, is_of, is_past, is_too_deep, serves_in, serves_of}
+use Rattle.cache_config.specs.Caches.{Cache, cache, cache_by, cache_in, cache_of, is_of, is_past, is_too_deep, serves_in}
 use Rattle.cache_config.specs.Chains.{AreShort, most_chain}
 use Rattle.cache_config.specs.Faults.{chain_rule, element_faults, numbered}
 use Rattle.cache_config.specs.Keys.{cache_tables}

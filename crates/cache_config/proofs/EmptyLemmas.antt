@@ -1,5 +1,5 @@
 -- What follows where there are no faults.
-use Rattle.std.proofs.Common.{◌≡◌, ℕ, ◌+◌, ◌-◌, ◌<◌, ◌≤◌, Bool, true, false, le-leb, List, [], ◌∷◌, ◌++◌, length, map, get_or, take, drop, Option, Some, None, refl, sym, ◌∙◌, if◌then◌else◌, is_some, option_and_then}
+use Rattle.std.proofs.Common.{◌≡◌, ℕ, ◌+◌, ◌<◌, ◌≤◌, Bool, true, false, le-leb, List, [], ◌∷◌, ◌++◌, length, map, get_or, take, drop, Option, Some, None, refl, sym, ◌∙◌, if◌then◌else◌, is_some, option_and_then}
 use Rattle.std.proofs.lemmas.Bool.{false≢true}
 use Rattle.std.proofs.lemmas.List.{length-map, take-map, drop_more}
 use Rattle.toml.specs.Data.{Data, Members, as_table, get_member}
@@ -8,10 +8,9 @@ use Rattle.toml.specs.declared.value.Value.{Value}
 use Rattle.cache_config.specs.declared.fault.Fault.{Fault}
 use Rattle.cache_config.specs.Caches.{cache_by, cache_in, cache_of, serves_by}
 use Rattle.cache_config.specs.Faults.{JointRule, element_faults, element_prefix, numbered, row_faults, shape_by, shape_faults, unknown_faults, value_faults}
-use Rattle.cache_config.specs.Keys.{Kind, Required, Row, Tables, cache_row, cache_tables, region_row, region_tables, row}
+use Rattle.cache_config.specs.Keys.{Kind, Required, Tables, cache_row, cache_tables, region_row, region_tables, row}
 use Rattle.cache_config.specs.Spans.{span_by, span_in, span_of}
 use Rattle.cache_config.specs.Values.{fits, number_at, number_of}
-use Rattle.lru_concrete.specs.declared.level.Serves.{Serves}
 use Rattle.std.specs.Prelude.{codes, flat_map, option_map}
 
 -- Two lists that are empty together.

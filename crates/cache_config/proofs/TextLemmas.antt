@@ -1,5 +1,5 @@
 -- A text that gives a profile has no fault, and the empty text gives the plain profile.
-use Rattle.std.proofs.Common.{◌≡◌, ℕ, List, [], ◌∷◌, map, Some, refl, sym, ◌∙◌, ap, subst, arith, unwrap_or, Result, Ok, Err, IfOk, IfErr, MatchResult, OnOk}
+use Rattle.std.proofs.Common.{◌≡◌, ℕ, List, [], Some, refl, sym, ◌∙◌, ap, subst, arith, unwrap_or, Result, Ok, Err, IfOk, IfErr, MatchResult, OnOk}
 use Rattle.toml.proofs.OnLiterals.{toml_on_literals}
 use Rattle.toml.specs.Data.{Members, no_members}
 use Rattle.toml.specs.Parse.{parse_document}

@@ -1,5 +1,5 @@
 -- The rows of the key table that the code holds.
-use Rattle.std.specs.Prelude.{ℕ, ◌≡◌, ◌≤◌, ◌<◌, ◌%◌, ⊤, true, List, length, map}
+use Rattle.std.specs.Prelude.{ℕ, ◌≡◌, ◌≤◌, ◌<◌, ◌%◌, ⊤, true, length, map}
 use Rattle.std.specs.Int.{is_power_of_two}
 use Rattle.cache_config.specs.declared.keys.Key.{Key}
 use Rattle.cache_config.specs.declared.keys.Kind as code
