@@ -6,5 +6,6 @@ pub mod OrderLemmas
 pub mod EmptyLemmas
 pub mod PlaceLemmas
 pub mod RegionLoop
+pub mod CacheLoop
 pub mod FaultlessLemmas
 pub mod TextLemmas

@@ -8,10 +8,9 @@ use Rattle.std.specs.List.{All, list_any}
 use Rattle.toml.specs.Data.{Data}
 use Rattle.cache_config.specs.declared.profile.Region.{Region}
 use Rattle.cache_config.specs.declared.spans.Span.{Span}
-use Rattle.cache_config.specs.Faults.{SharesAddress, is_misplaced, meets, meets_some}
 use Rattle.cache_config.specs.Limits.{AreApart, memory_end}
 use Rattle.cache_config.specs.Profiles.{span}
-use Rattle.cache_config.specs.Values.{span_of}
+use Rattle.cache_config.specs.Spans.{SharesAddress, is_misplaced, meets, meets_some, span_of}
 
 -- The regions that don't meet a span lie apart from it.
 abbrev pub IsApartFrom : Region → Region → Type 0

@@ -1,5 +1,5 @@
 -- A text that gives a profile has no fault, and the empty text gives the plain profile.
-use Rattle.std.proofs.Common.{◌≡◌, ℕ, List, [], ◌∷◌, map, Some, refl, sym, ◌∙◌, ap, subst, arith, unwrap_or, Result, Ok, Err, IfOk, IfErr, MatchResult, OnOk}
+use Rattle.std.proofs.Common.{◌≡◌, ℕ, List, [], Some, refl, sym, ◌∙◌, ap, subst, arith, unwrap_or, Result, Ok, Err, IfOk, IfErr, MatchResult, OnOk}
 use Rattle.toml.proofs.OnLiterals.{toml_on_literals}
 use Rattle.toml.specs.Data.{Members, no_members}
 use Rattle.toml.specs.Parse.{parse_document}
@@ -8,13 +8,10 @@ use Rattle.cache_config.specs.declared.fault.ConfigFault.{ConfigFault}
 use Rattle.cache_config.specs.declared.fault.ConfigFault.TheVariants.{Text, Key, Range, Memory}
 use Rattle.cache_config.specs.declared.fault.Fault.{Fault}
 use Rattle.cache_config.specs.declared.fault.FaultKind.{FaultKind}
-use Rattle.cache_config.specs.declared.profile.Cycles.{Cycles}
 use Rattle.cache_config.specs.declared.profile.Profile.{Profile}
-use Rattle.cache_config.specs.declared.profile.Region.{Region}
-use Rattle.cache_config.specs.Costs.{EachTakes}
 use Rattle.cache_config.specs.Defaults.{HasDefaults}
 use Rattle.cache_config.specs.Faults.{IsFirst, profile_faults}
-use Rattle.cache_config.specs.Profiles.{HasFirstFault, IsProfileOf, Means, ReadsAs, ReadsCosts, Tells, span}
+use Rattle.cache_config.specs.Profiles.{HasFirstFault, IsProfileOf, Means, ReadsAs, Tells}
 
 nothing : parse_document [] ≡ Some no_members
 unfolding toml_on_literals
@@ -28,43 +25,8 @@ one-meaning text ms ns a b = ap (λ o. unwrap_or o ms) (sym b.1 ∙ a.1)
 no-members : (ms : Members) → Means [] ms → ms ≡ no_members
 no-members ms means = one-meaning [] no_members ms (IsUtf8-nil, nothing) means
 
-costs : (c : Cycles) → ReadsCosts no_members c → EachTakes 1 c
-costs c reads =
-    record {
-      alu = reads.alu;
-      shift = reads.shift;
-      mult = reads.mult;
-      div = reads.div;
-      hilo = reads.hilo;
-      load = reads.load;
-      store = reads.store;
-      branch = reads.branch;
-      jump = reads.jump;
-      stop = reads.stop;
-    }
-
-no-regions : (regions : List Region) → map (λ r. Some (span r)) regions ≡ [] → regions ≡ []
-no-regions [] e = refl
-no-regions (r ∷ rs) e = cc
-
-defaults-of : (p : Profile) → ReadsAs no_members p → HasDefaults p
-defaults-of p reads =
-    record {
-      memory = reads.memory;
-      store = reads.store;
-      splits = reads.splits;
-      steps = reads.steps;
-      stack_top = reads.stack_top;
-      stack_size = reads.stack_size;
-      gp = reads.gp;
-      entry = reads.entry;
-      cycles = costs p.cycles reads.cycles;
-      regions = no-regions p.regions reads.regions;
-      levels = reads.levels;
-    }
-
 pub empty-defaults : (p : Profile) → IsProfileOf [] p → HasDefaults p
-empty-defaults p is = defaults-of p (subst (λ ms. ReadsAs ms p) (no-members is.members is.means) is.reads)
+empty-defaults p is = subst (λ ms. ReadsAs ms p) (no-members is.members is.means) is.reads
 
 no-first : (fault : Fault) → IsFirst [] fault → ⊥
 no-first fault first = let (k, low, same) = first.here in omega (arith, low)

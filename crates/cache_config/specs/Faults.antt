@@ -1,19 +1,17 @@
 -- The faults of a profile's text, each with its printed path, and which of them is answered.
-use Rattle.std.specs.Prelude.{◌≡◌, ℕ, ◌+◌, ◌&&◌, ◌||◌, nat_le, nat_lt, Bool, false, List, [], ◌∷◌, ◌++◌, length, map, flat_map, take, All, Contains, Option, Some, None, codes, decimal, bytes_eq, if◌then◌else◌}
+use Rattle.std.specs.Prelude.{◌≡◌, ℕ, ◌+◌, ◌&&◌, nat_le, nat_lt, Bool, false, List, [], ◌∷◌, ◌++◌, length, map, flat_map, take, All, Contains, Option, Some, None, codes, decimal, bytes_eq, if◌then◌else◌}
 use Rattle.std.specs.List.{list_any}
-use Rattle.std.specs.Option.{option_map_or}
 use Rattle.std.specs.Ordering.{nat_cmp, is_lt}
 use Rattle.std.specs.Cmp.Lexicographic.{slice_cmp}
 use Rattle.toml.specs.Data.{Data, Members, no_members, member, as_table, get_member}
 use Rattle.cache_config.specs.declared.fault.Fault.{Fault}
 use Rattle.cache_config.specs.declared.fault.FaultKind.{FaultKind}
 use Rattle.cache_config.specs.declared.fault.FaultKind.TheVariants.{Key, Range}
-use Rattle.cache_config.specs.declared.keys.Absent.{Absent}
-use Rattle.cache_config.specs.declared.keys.Absent.TheVariants.{Default, Nothing, Required}
 use Rattle.cache_config.specs.declared.spans.Span.{Span}
-use Rattle.cache_config.specs.Keys.{Row, cost_rows, profile_rows, region_rows, stack_size_row, stack_top_row, start_row}
-use Rattle.cache_config.specs.Limits.{Covers, memory_end, most_regions}
-use Rattle.cache_config.specs.Values.{costs_of, fits, is_kept, regions_of, span_of, stack_of, value_of}
+use Rattle.cache_config.specs.Caches.{is_too_deep}
+use Rattle.cache_config.specs.Keys.{Absent, Default, Word, Nothing, Required, Row, Tables, cache_tables, class_rows, profile_rows, region_tables}
+use Rattle.cache_config.specs.Spans.{is_misplaced, is_stack_kept, size_of, span_of, stack_of, top_of}
+use Rattle.cache_config.specs.Values.{caches_of, costs_of, fits, regions_of}
 
 -- A byte of a key as it is printed: itself from 21 to 7E (hexadecimal), else a question mark.
 abbrev pub printed : ℕ → ℕ
@@ -50,7 +48,8 @@ unknown_faults prefix rows ms = flat_map (unknown_fault prefix rows) (names ms)
 
 -- A key that isn't there, though it has to be.
 abbrev pub absent_faults : Absent → List ℕ → List Fault
-absent_faults (Default n) path = []
+absent_faults (Default number) path = []
+absent_faults (Word word) path = []
 absent_faults Nothing path = []
 absent_faults Required path = key_fault path ∷ []
 
@@ -70,69 +69,66 @@ table_faults prefix rows ms = unknown_faults prefix rows ms ++ flat_map (row_fau
 -- within their own limits.
 abbrev pub stack_faults : Members → List Fault
 stack_faults ms =
-    if (is_kept stack_top_row ms && is_kept stack_size_row ms) && nat_lt (value_of stack_top_row ms) (value_of stack_size_row ms)
-    then range_fault (path_of [] stack_top_row.name) ∷ [] else []
+    if is_stack_kept ms && nat_lt (top_of ms) (size_of ms) then range_fault (path_of [] (codes "stack_top")) ∷ [] else []
 
--- The path of an element of `region`, and what stands before a key inside it.
-abbrev pub element_path : ℕ → List ℕ
-element_path at = codes "region[" ++ decimal at ++ codes "]"
+-- The path of an element of an array of tables, and what stands before a key inside it.
+abbrev pub element_path : List ℕ → ℕ → List ℕ
+element_path name at = name ++ codes "[" ++ decimal at ++ codes "]"
 
-abbrev pub element_prefix : ℕ → List ℕ
-element_prefix at = codes "region[" ++ decimal at ++ codes "]."
+abbrev pub element_prefix : List ℕ → ℕ → List ℕ
+element_prefix name at = name ++ codes "[" ++ decimal at ++ codes "]."
 
--- The two spans share an address.
-pub record SharesAddress (s t : Span) : Type 0 where
-  pub address : ℕ
-  pub here : Covers s.start s.size address
-  pub there : Covers t.start t.size address
+-- A joint rule of elements: the faults of an element by the ones before it, its number and what it is.
+abbrev pub JointRule : Type 0
+JointRule = List Data → ℕ → Data → List Fault
 
--- The same as a test, of spans that aren't empty: each begins before the other one's end.
-abbrev pub meets : Span → Span → Bool
-meets s t = nat_lt s.start (t.start + t.size) && nat_lt t.start (s.start + s.size)
+-- A fault at a key of the element of this number, by a test.
+abbrev pub fault_inside : Bool → List ℕ → ℕ → List ℕ → List Fault
+fault_inside broken name at key = if broken then range_fault (path_of (element_prefix name at) key) ∷ [] else []
 
-abbrev pub meets_some : Span → Option Span → Bool
-meets_some s t = option_map_or (meets s) t false
-
--- The joint rules of a region: it ends at the end of memory or before, and shares no address with the
--- stack and with the earlier elements. Only a span whose numbers are within their own limits is
--- looked at, and compared with such ones.
-abbrev pub is_misplaced : Option Span → List Data → Span → Bool
-is_misplaced stack earlier s =
-    nat_lt memory_end (s.start + s.size) || (meets_some s stack || list_any (λ d. meets_some s (span_of d)) earlier)
-
+-- The rules of regions: they end by the end of memory, and lie apart from the stack and from each other.
 abbrev pub place_faults : Option Span → List Data → ℕ → Option Span → List Fault
 place_faults stack earlier at None = []
 place_faults stack earlier at (Some s) =
-    if is_misplaced stack earlier s then range_fault (path_of (element_prefix at) start_row.name) ∷ [] else []
+    fault_inside (is_misplaced stack earlier s) region_tables.name at (codes "start")
+
+abbrev pub place_rule : Option Span → JointRule
+place_rule stack earlier at d = place_faults stack earlier at (span_of d)
+
+-- The rule of caches: no chain has more than three.
+abbrev pub chain_rule : JointRule
+chain_rule earlier at d = fault_inside (is_too_deep earlier d) cache_tables.name at (codes "serves")
 
 -- The faults of an element by itself: it isn't a table, or its keys have faults.
-abbrev pub shape_by : ℕ → Option Members → List Fault
-shape_by at None = range_fault (element_path at) ∷ []
-shape_by at (Some ms) = table_faults (element_prefix at) region_rows ms
+abbrev pub shape_by : Tables → ℕ → Option Members → List Fault
+shape_by tables at None = range_fault (element_path tables.name at) ∷ []
+shape_by tables at (Some ms) = table_faults (element_prefix tables.name at) tables.rows ms
 
-abbrev pub shape_faults : ℕ → Data → List Fault
-shape_faults at d = shape_by at (as_table d)
+abbrev pub shape_faults : Tables → ℕ → Data → List Fault
+shape_faults tables at d = shape_by tables at (as_table d)
 
--- The faults of the element of this number. Where there are too many elements, `region` itself is a
+-- The faults of the element of this number. Where there are too many elements, the array itself is a
 -- fault and stands before each path inside it, so that the joint rules could change no answer.
-abbrev pub element_faults : Option Span → List Data → ℕ → Data → List Fault
-element_faults stack all at d =
-    shape_faults at d ++ (if nat_le (length all) most_regions then place_faults stack (take at all) at (span_of d) else [])
+abbrev pub element_faults : Tables → JointRule → List Data → ℕ → Data → List Fault
+element_faults tables rule all at d =
+    shape_faults tables at d ++ (if nat_le (length all) tables.most then rule (take at all) at d else [])
 
 -- The faults of elements, the first of which has this number.
 abbrev pub numbered : (ℕ → Data → List Fault) → ℕ → List Data → List Fault
 numbered faults at [] = []
 numbered faults at (d ∷ ds) = faults at d ++ numbered faults (at + 1) ds
 
-abbrev pub region_faults : Option Span → List Data → List Fault
-region_faults stack all = numbered (element_faults stack all) 0 all
+abbrev pub array_faults : Tables → JointRule → List Data → List Fault
+array_faults tables rule all = numbered (element_faults tables rule all) 0 all
 
 -- All faults of a profile's text.
 abbrev pub profile_faults : Members → List Fault
 profile_faults ms =
     table_faults [] profile_rows ms
-    ++ (table_faults (codes "cycles.") cost_rows (costs_of ms)
-    ++ (stack_faults ms ++ region_faults (stack_of ms) (regions_of ms)))
+    ++ (table_faults (codes "cycles.") class_rows (costs_of ms)
+    ++ (stack_faults ms
+    ++ (array_faults cache_tables chain_rule (caches_of ms)
+    ++ array_faults region_tables (place_rule (stack_of ms)) (regions_of ms))))
 
 -- Faults of keys come before faults of values, and of one kind that whose printed path is less.
 abbrev pub rank : FaultKind → ℕ

@@ -1,13 +1,27 @@
 -- The key table: what may stand at each key of a profile's text, and what holds without the key.
-use Rattle.std.specs.Prelude.{ℕ, ◌-◌, List, [], ◌∷◌, bytes_eq, codes, if◌then◌else◌}
-use Rattle.cache_config.specs.declared.keys.Kind.{Kind}
-use Rattle.cache_config.specs.declared.keys.Kind.TheVariants.{Number, Eights, Text, Costs, Regions, Unread}
-use Rattle.cache_config.specs.declared.keys.Absent.{Absent}
-use Rattle.cache_config.specs.declared.keys.Absent.TheVariants.{Default, Nothing, Required}
-use Rattle.cache_config.specs.Limits.{area_above, least_stack, memory_end, most_bytes, most_cycles, most_splits, most_steps}
+use Rattle.std.specs.Prelude.{ℕ, ◌-◌, List, [], ◌∷◌, bytes_eq, codes, map, if◌then◌else◌}
+use Rattle.cache_config.specs.Limits.{area_above, least_stack, memory_end, most_bytes, most_cycles, most_regions, most_splits, most_steps}
+use Rattle.lru_concrete.specs.Limits.{least_line, most_latency, most_levels, most_line, most_sets, most_ways}
+
+-- What may stand at a key: an integer from least to most, also one that is a multiple of 8 or a power of two; a text,
+-- also one that is one of some words; a table; an array of at most so many elements.
+pub data Kind : Type 0 where
+  Number : (least most : ℕ) → Kind
+  Eights : (least most : ℕ) → Kind
+  Power : (least most : ℕ) → Kind
+  Text : Kind
+  OneOf : (words : List (List ℕ)) → Kind
+  Table : Kind
+  Array : (most : ℕ) → Kind
+
+-- What holds where a key isn't there: a number, a word, nothing, or that it has to be there.
+pub data Absent : Type 0 where
+  Default : (number : ℕ) → Absent
+  Word : (word : List ℕ) → Absent
+  Nothing : Absent
+  Required : Absent
 
 -- A row of the table: a key's name, what may stand there, and what holds where the key isn't there.
--- `Number a b` is an integer from a to b, and `Eights a b` one that is a multiple of 8.
 pub record Row : Type 0 where
   pub name : List ℕ
   pub kind : Kind
@@ -15,6 +29,40 @@ pub record Row : Type 0 where
 
 abbrev pub row : List ℕ → Kind → Absent → Row
 row n k a = record { name = n; kind = k; absent = a }
+
+-- An array of tables: its key's name, how many elements it may have, and the keys of each.
+pub record Tables : Type 0 where
+  pub name : List ℕ
+  pub most : ℕ
+  pub rows : List Row
+
+abbrev pub array_row : Tables → Row
+array_row tables = row tables.name (Array tables.most) Nothing
+
+-- What a cache may serve.
+abbrev pub serve_words : List (List ℕ)
+serve_words = codes "fetch" ∷ codes "load" ∷ codes "both" ∷ []
+
+abbrev pub cache_tables : Tables
+cache_tables = record {
+  name = codes "cache";
+  most = most_levels;
+  rows =
+      row (codes "serves") (OneOf serve_words) Required ∷
+      row (codes "sets") (Power 1 most_sets) Required ∷
+      row (codes "ways") (Number 1 most_ways) Required ∷
+      row (codes "line") (Power least_line most_line) Required ∷
+      row (codes "latency") (Number 0 most_latency) Required ∷ [];
+}
+
+abbrev pub region_tables : Tables
+region_tables = record {
+  name = codes "region";
+  most = most_regions;
+  rows =
+      row (codes "start") (Number 0 (memory_end - 1)) Required ∷
+      row (codes "size") (Number 1 most_bytes) Required ∷ [];
+}
 
 -- The keys of a profile.
 abbrev pub profile_rows : List Row
@@ -27,80 +75,32 @@ profile_rows =
     row (codes "stack_size") (Eights least_stack most_bytes) (Default 65536) ∷
     row (codes "gp") (Number 0 0xFFFFFFFF) Nothing ∷
     row (codes "entry") Text Nothing ∷
-    row (codes "cycles") Costs Nothing ∷
-    row (codes "cache") Unread Nothing ∷
-    row (codes "region") Regions Nothing ∷ []
+    row (codes "cycles") Table Nothing ∷
+    array_row cache_tables ∷
+    array_row region_tables ∷ []
 
--- The keys of the table `cycles`: the classes of instructions.
-abbrev pub cost_rows : List Row
-cost_rows =
-    row (codes "alu") (Number 1 most_cycles) (Default 1) ∷
-    row (codes "shift") (Number 1 most_cycles) (Default 1) ∷
-    row (codes "mult") (Number 1 most_cycles) (Default 1) ∷
-    row (codes "div") (Number 1 most_cycles) (Default 1) ∷
-    row (codes "move") (Number 1 most_cycles) (Default 1) ∷
-    row (codes "load") (Number 1 most_cycles) (Default 1) ∷
-    row (codes "store") (Number 1 most_cycles) (Default 1) ∷
-    row (codes "branch") (Number 1 most_cycles) (Default 1) ∷
-    row (codes "jump") (Number 1 most_cycles) (Default 1) ∷
-    row (codes "stop") (Number 1 most_cycles) (Default 1) ∷ []
+-- The key of a class of instructions in the table `cycles`.
+abbrev pub class_row : List ℕ → Row
+class_row name = row name (Number 1 most_cycles) (Default 1)
 
--- The keys of each table in the array `region`.
-abbrev pub region_rows : List Row
-region_rows =
-    row (codes "start") (Number 0 (memory_end - 1)) Required ∷
-    row (codes "size") (Number 1 most_bytes) Required ∷ []
+abbrev pub class_names : List (List ℕ)
+class_names =
+    codes "alu" ∷ codes "shift" ∷ codes "mult" ∷ codes "div" ∷ codes "move" ∷
+    codes "load" ∷ codes "store" ∷ codes "branch" ∷ codes "jump" ∷ codes "stop" ∷ []
 
--- The row of a name.
-abbrev pub named : List ℕ → List Row → Row
-named name [] = row name Unread Nothing
-named name (r ∷ rows) = if bytes_eq r.name name then r else named name rows
+abbrev pub class_rows : List Row
+class_rows = map class_row class_names
 
--- Rows that the definitions speak of.
+-- The row of a name, which has one.
+abbrev pub named : List Row → List ℕ → Row
+named [] name = row name Text Nothing
+named (r ∷ rows) name = if bytes_eq r.name name then r else named rows name
+
 abbrev pub profile_row : List ℕ → Row
-profile_row name = named name profile_rows
+profile_row = named profile_rows
 
-abbrev pub cost_row : List ℕ → Row
-cost_row name = named name cost_rows
+abbrev pub cache_row : List ℕ → Row
+cache_row = named cache_tables.rows
 
-abbrev pub region_key_row : List ℕ → Row
-region_key_row name = named name region_rows
-
-abbrev pub memory_row : Row
-memory_row = profile_row (codes "memory")
-
-abbrev pub store_row : Row
-store_row = profile_row (codes "store")
-
-abbrev pub splits_row : Row
-splits_row = profile_row (codes "splits")
-
-abbrev pub steps_row : Row
-steps_row = profile_row (codes "steps")
-
-abbrev pub stack_top_row : Row
-stack_top_row = profile_row (codes "stack_top")
-
-abbrev pub stack_size_row : Row
-stack_size_row = profile_row (codes "stack_size")
-
-abbrev pub gp_row : Row
-gp_row = profile_row (codes "gp")
-
-abbrev pub entry_row : Row
-entry_row = profile_row (codes "entry")
-
-abbrev pub cycles_row : Row
-cycles_row = profile_row (codes "cycles")
-
-abbrev pub cache_row : Row
-cache_row = profile_row (codes "cache")
-
-abbrev pub region_row : Row
-region_row = profile_row (codes "region")
-
-abbrev pub start_row : Row
-start_row = region_key_row (codes "start")
-
-abbrev pub size_row : Row
-size_row = region_key_row (codes "size")
+abbrev pub region_row : List ℕ → Row
+region_row = named region_tables.rows

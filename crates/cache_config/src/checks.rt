@@ -74,8 +74,7 @@ fn note_row(
             note_at(alloc, prefix, key.name, FaultKind::Range, first)
         }
         None => match key.absent {
-            Absent::Default(_) => Ok(()),
-            Absent::Nothing => Ok(()),
+            Absent::Default(_) | Absent::Word(_) | Absent::Nothing => Ok(()),
             Absent::Required => note_at(alloc, prefix, key.name, FaultKind::Key, first),
         },
     }

@@ -30,17 +30,18 @@ pub(crate) fn path_of(alloc: Global, prefix: &str, name: &str) -> Result<List<u8
     Ok(List::from_vec(path))
 }
 
-/// The path of an element of `region`.
-pub(crate) fn element_path(alloc: Global, at: usize) -> Result<List<u8>, AllocError>
-    ensures { IfOk result (λ path. path ≡ element_path at) }
+/// The path of an element of an array.
+pub(crate) fn element_path(alloc: Global, name: &str, at: usize) -> Result<List<u8>, AllocError>
+    ensures { IfOk result (λ path. path ≡ element_path name.now at) }
 {
-    let path = format!(in alloc; "region[{at}]")?;
+    let path = format!(in alloc; "{name}[{at}]")?;
     Ok(List::from_vec(path.into_bytes()))
 }
 
-/// What stands before a key inside an element of `region`.
-pub(crate) fn element_prefix(alloc: Global, at: usize) -> Result<String, AllocError>
-    ensures { IfOk result (λ prefix. string_bytes prefix ≡ element_prefix at) }
+/// What stands before a key inside an element of an array.
+pub(crate) fn element_prefix(alloc: Global, name: &str, at: usize) -> Result<String, AllocError>
+    ensures { IfOk result (λ prefix. string_bytes prefix ≡ element_prefix name.now at) }
 {
-    format!(in alloc; "region[{at}].")
+    let prefix = format!(in alloc; "{name}[{at}].")?;
+    Ok(prefix)
 }

@@ -5,8 +5,12 @@ ghost use Rattle.cache_config.specs.Chains.{AreShort};
 ghost use Rattle.cache_config.specs.Limits.{AreApart, IsCost, IsOffStack, area_above, least_stack, memory_end, most_bytes, most_cycles, most_regions, most_splits, most_steps};
 ghost use Rattle.lru_concrete.specs.Limits.{most_levels};
 
+use crate::keys::{MEMORY, SPLITS, STACK_SIZE, STACK_TOP, STEPS, STORE};
+use crate::read::read_costs;
+use crate::values::value_of;
 use lru_concrete::Level;
 use std::alloc::Global;
+use toml::Table;
 use wcet_io::List;
 
 /// The cycles that an instruction of each class takes, beside those of its accesses of memory.
@@ -44,29 +48,6 @@ pub struct Cycles {
     pub ghost branch_cost: { IsCost branch },
     pub ghost jump_cost: { IsCost jump },
     pub ghost stop_cost: { IsCost stop },
-}
-
-impl Cycles {
-    ghost use Rattle.cache_config.specs.Costs.{EachTakes};
-
-    /// The same number of cycles for each class.
-    pub(crate) fn each(cycles: u64) -> Cycles
-        requires { IsCost cycles }
-        ensures { EachTakes cycles result }
-    {
-        Cycles {
-            alu: cycles,
-            shift: cycles,
-            mult: cycles,
-            div: cycles,
-            hilo: cycles,
-            load: cycles,
-            store: cycles,
-            branch: cycles,
-            jump: cycles,
-            stop: cycles,
-        }
-    }
 }
 
 /// A region of memory that a program may read and write, beside its segments and its stack.
@@ -126,35 +107,25 @@ pub struct Profile {
 }
 
 impl Profile {
-    ghost use Rattle.std.specs.Prelude.{None};
-    ghost use Rattle.cache_config.specs.Costs.{EachTakes};
+    ghost use Rattle.cache_config.specs.Defaults.{HasDefaults};
 
-    /// The profile with the default of each number, no caches and no further regions.
+    /// The profile of a text without keys: the default of each number, no caches and no further regions.
     ///
     /// It takes no memory.
     pub fn plain(alloc: Global) -> Profile
-        ensures memory { result.memory ≡ 10 }
-        ensures store { result.store ≡ 10 }
-        ensures splits { result.splits ≡ 256 }
-        ensures steps { result.steps ≡ 1000000 }
-        ensures stack_top { result.stack_top ≡ 0x7FFF0000 }
-        ensures stack_size { result.stack_size ≡ 65536 }
-        ensures gp { result.gp ≡ None }
-        ensures entry { result.entry ≡ None }
-        ensures cycles { EachTakes 1 result.cycles }
-        ensures regions { result.regions ≡ [] }
-        ensures levels { result.levels ≡ [] }
+        ensures { HasDefaults result }
     {
+        let empty = Table::new(alloc);
         Profile {
-            memory: 10,
-            store: 10,
-            splits: 256,
-            steps: 1_000_000,
-            stack_top: 0x7FFF_0000,
-            stack_size: 65_536,
+            memory: value_of(&empty, &MEMORY),
+            store: value_of(&empty, &STORE),
+            splits: value_of(&empty, &SPLITS) as u32,
+            steps: value_of(&empty, &STEPS) as u32,
+            stack_top: value_of(&empty, &STACK_TOP) as u32,
+            stack_size: value_of(&empty, &STACK_SIZE) as u32,
             gp: None,
             entry: None,
-            cycles: Cycles::each(1),
+            cycles: read_costs(&empty),
             regions: List::new(alloc),
             levels: List::new(alloc),
         }

@@ -1,30 +1,37 @@
 //! The profile that a text gives.
 
-ghost use Rattle.std.specs.Prelude.{◌≡◌, ◌≤◌, [], Some, All, AllPairs, IfErr, IfNone, IfOk, IfSome, MatchResult, OnOk, ℕ, false, length, map};
+ghost use Rattle.std.specs.Prelude.{◌≡◌, ◌≤◌, [], Some, All, AllPairs, IfErr, IfNone, IfOk, IfSome, MatchResult, OnOk, ℕ, codes, false, length, map};
 ghost use Rattle.toml.specs.View.{table_view, view};
 ghost use Rattle.cache_config.specs.declared.fault.ConfigFault.{ConfigFault};
 ghost use Rattle.cache_config.specs.Defaults.{HasDefaults};
-ghost use Rattle.cache_config.specs.Faults.{is_misplaced, place_faults, profile_faults, region_faults, shape_faults};
-ghost use Rattle.cache_config.specs.Keys.{gp_row};
-ghost use Rattle.cache_config.specs.Limits.{AreApart};
+ghost use Rattle.cache_config.specs.Caches.{cache, cache_of};
+ghost use Rattle.cache_config.specs.Chains.{AreShort};
+ghost use Rattle.cache_config.specs.Faults.{array_faults, chain_rule, place_rule, profile_faults, shape_faults};
+ghost use Rattle.cache_config.specs.Keys.{cache_tables, profile_row, region_tables};
+ghost use Rattle.cache_config.specs.Limits.{AreApart, most_regions};
 ghost use Rattle.cache_config.specs.Profiles.{IsProfileOf, Means, ReadsAs, ReadsCosts, Tells, TellsOf, span};
-ghost use Rattle.cache_config.specs.Values.{entry_of, number_at, span_of, value_of};
+ghost use Rattle.cache_config.specs.Spans.{is_misplaced, span_of};
+ghost use Rattle.cache_config.specs.Values.{entry_of, number_at};
+ghost use Rattle.lru_concrete.specs.Limits.{most_levels};
+ghost use Rattle.lru_concrete.specs.declared.level.Level.{Level};
 
+use crate::caches::cache_of;
 use crate::fault::{ConfigFault, FaultKind};
 use crate::first::first_fault;
 use crate::keys::{
-    ALU, BRANCH, CYCLES, DIV, ENTRY, GP, JUMP, LOAD, MEMORY, MOVE, MULT, REGION, SHIFT, SPLITS,
-    STACK_SIZE, STACK_TOP, STEPS, STOP, STORE, STORES,
+    ALU, BRANCH, CACHE, CYCLES, DIV, ENTRY, GP, JUMP, LOAD, MEMORY, MOVE, MULT, REGION, SHIFT,
+    SPLITS, STACK_SIZE, STACK_TOP, STEPS, STOP, STORE, STORES,
 };
 use crate::profile::{Cycles, Profile, Region};
 use crate::spans::{Span, is_misplaced, span_of, stack_of};
 use crate::values::{elements_at, member, number_at, table_at, value_of};
+use lru_concrete::Level;
 use std::alloc::{AllocError, Global};
 use toml::{Table, Value};
 use wcet_io::List;
 
 /// The cycles of the classes.
-fn read_costs(table: &Table) -> Cycles
+pub(crate) fn read_costs(table: &Table) -> Cycles
     ensures { ReadsCosts (table_view table.now) result }
 {
     Cycles {
@@ -58,7 +65,7 @@ fn read_entry(alloc: Global, table: &Table) -> Result<Option<List<u8>>, AllocErr
 
 /// The value with which register 28 starts.
 fn read_gp(table: &Table) -> Option<u32>
-    ensures { result ≡ number_at gp_row (table_view table.now) }
+    ensures { result ≡ number_at (profile_row (codes "gp")) (table_view table.now) }
 {
     match number_at(table, &GP) {
         Some(value) => Some(value as u32),
@@ -71,8 +78,8 @@ fn read_region(stack: Span, earlier: &[Value], value: &Value) -> Option<Region>
     ensures span { IfSome result (λ r. Some (span r) ≡ span_of (view value.now)) }
     ensures placed { IfSome result (λ r. is_misplaced (Some stack) (map view earlier.now) (span r) ≡ false) }
     ensures none { IfNone result (
-        (at : ℕ) → shape_faults at (view value.now) ≡ []
-        → place_faults (Some stack) (map view earlier.now) at (span_of (view value.now)) ≡ [] → ⊥) }
+        (at : ℕ) → shape_faults region_tables at (view value.now) ≡ []
+        → place_rule (Some stack) (map view earlier.now) at (view value.now) ≡ [] → ⊥) }
 {
     let Some(span) = span_of(value) else {
         return None;
@@ -88,8 +95,8 @@ fn read_region(stack: Span, earlier: &[Value], value: &Value) -> Option<Region>
 
 /// The regions of the elements of `region`, none of which has a fault.
 fn read_regions(alloc: Global, stack: Span, values: &[Value]) -> Result<List<Region>, AllocError>
-    requires few { length values.now ≤ 16 }
-    requires faultless { region_faults (Some stack) (map view values.now) ≡ [] }
+    requires few { length values.now ≤ most_regions }
+    requires faultless { array_faults region_tables (place_rule (Some stack)) (map view values.now) ≡ [] }
     ensures regions { IfOk result (λ rs. map (λ r. Some (span r)) rs ≡ map span_of (map view values.now)) }
     ensures off_stack { IfOk result (All (λ r. AreApart stack.start stack.size r.start r.size)) }
     ensures apart { IfOk result (AllPairs (λ r s. AreApart r.start r.size s.start s.size)) }
@@ -104,6 +111,24 @@ fn read_regions(alloc: Global, stack: Span, values: &[Value]) -> Result<List<Reg
     Ok(regions)
 }
 
+/// The caches of the elements of `cache`, none of which has a fault.
+fn read_levels(alloc: Global, values: &[Value]) -> Result<List<Level>, AllocError>
+    requires few { length values.now ≤ most_levels }
+    requires faultless { array_faults cache_tables chain_rule (map view values.now) ≡ [] }
+    ensures levels { IfOk result (λ ls.
+        map (λ (l : Level). Some (cache l)) ls ≡ map cache_of (map view values.now)) }
+    ensures short { IfOk result AreShort }
+{
+    let mut levels = List::new(alloc);
+    for at in 0..values.len() {
+        let Some(level) = cache_of(&values[at]) else {
+            unreachable!()
+        };
+        levels.push(level)?;
+    }
+    Ok(levels)
+}
+
 /// The profile of a text without a fault.
 fn read_values(alloc: Global, table: &Table) -> Result<Profile, AllocError>
     requires { profile_faults (table_view table.now) ≡ [] }
@@ -113,7 +138,10 @@ fn read_values(alloc: Global, table: &Table) -> Result<Profile, AllocError>
         unreachable!()
     };
     let entry = read_entry(alloc, table)?;
-    let regions = read_regions(alloc, stack, elements_at(table, REGION.name))?;
+    let caches = elements_at(table, CACHE.name);
+    let levels = read_levels(alloc, caches)?;
+    let areas = elements_at(table, REGION.name);
+    let regions = read_regions(alloc, stack, areas)?;
     let empty = Table::new(alloc);
     let cycles = read_costs(table_at(table, CYCLES.name, &empty));
     Ok(Profile {
@@ -127,7 +155,7 @@ fn read_values(alloc: Global, table: &Table) -> Result<Profile, AllocError>
         entry,
         cycles,
         regions,
-        levels: List::new(alloc),
+        levels,
     })
 }
 

@@ -4,11 +4,11 @@ ghost use Rattle.std.specs.Prelude.{◌≡◌, ◌<◌, ◌≤◌, IfSome, false
 ghost use Rattle.std.specs.Bool.{OnFalse, OnTrue};
 ghost use Rattle.std.specs.List.{list_any};
 ghost use Rattle.toml.specs.View.{table_view, view};
-ghost use Rattle.cache_config.specs.Faults.{SharesAddress, is_misplaced, meets, meets_some};
 ghost use Rattle.cache_config.specs.Limits.{AreApart, memory_end, most_bytes};
-ghost use Rattle.cache_config.specs.Values.{span_in, span_of, stack_of};
+ghost use Rattle.cache_config.specs.Spans.{SharesAddress, is_misplaced, meets, meets_some, span_in, span_of, stack_of};
 
 use crate::keys::{SIZE, STACK_SIZE, STACK_TOP, START};
+use crate::limits::{AREA_ABOVE, MEMORY_END};
 use crate::values::{is_kept, number_at, value_of};
 use toml::{Table, Value};
 
@@ -32,7 +32,7 @@ pub(crate) fn stack_of(table: &Table) -> Option<Span>
     if kept && size <= top {
         Some(Span {
             start: (top - size) as u32,
-            size: (size + 64) as u32,
+            size: (size + AREA_ABOVE) as u32,
         })
     } else {
         None
@@ -106,5 +106,5 @@ pub(crate) fn is_misplaced(stack: Option<Span>, earlier: &[Value], span: Span) -
     ensures { result ≡ is_misplaced stack (map view earlier.now) span }
 {
     let end = u64::from(span.start) + u64::from(span.size);
-    end > 0xFFFF_FFF0 || meets_some(span, stack) || meets_earlier(span, earlier)
+    end > MEMORY_END || meets_some(span, stack) || meets_earlier(span, earlier)
 }

@@ -1,8 +1,7 @@
 use Rattle.std.proofs.Common.{◌≡◌, map, drop}
 use Rattle.std.specs.List.{list_any}
 use Rattle.toml.specs.View.{view}
-use Rattle.cache_config.specs.Faults.{meets_some}
-use Rattle.cache_config.specs.Values.{span_of}
+use Rattle.cache_config.specs.Spans.{meets_some, span_of}
 use Rattle.cache_config.proofs.spans.meets_earlier.Given as goal
 
 abbrev pub invariant-loop-value : goal.invariant-loop-value
