@@ -53,7 +53,7 @@ fitting image profile entry net certificate is certifies large =
 -- A program without a fault is analysed.
 pub is-analysed : (image : Image) (profile : Profile) (entry : ℕ) (graphs : Graphs) (nests : Nests) (net : Net) (certificate : Certificate) →
     IsProgram image entry graphs nests → IsNetOf image entry net → Certifies image profile net certificate →
-    IsAnalysisOf image profile entry (record { certificate = certificate })
+    IsAnalysisOf image profile entry (record { net = net; certificate = certificate })
 is-analysed image profile entry graphs nests net certificate program is certifies =
     let greatest = certificate-bound certifies.program certificate certifies.checkable certifies.valid in
     let counted = counts-runs image profile entry net certifies.program is certifies.is in
@@ -61,7 +61,6 @@ is-analysed image profile entry graphs nests net certificate program is certifie
       faultless =
           free-program image profile entry (code-faultless image entry graphs nests program) (can-return image entry net is)
           (not-many image entry graphs nests net program is) (fitting image profile entry net certificate is certifies);
-      net = net;
       is_net = is.is_net;
       paths = is.paths;
       program = certifies.program;

@@ -86,13 +86,12 @@ TellsFaultIn image profile entry Memory = Unit {0}
 -- What an analysis says of a program without a fault.
 pub record IsAnalysisOf (image : Image) (profile : Profile) (entry : ℕ) (analysis : Analysis) : Type 0 where
   pub faultless : (kind : RefusalKind) (place : ℕ) → OffendsIn image profile entry kind place → ⊥
-  -- Its net, along which its runs go.
-  pub net : Net
-  pub is_net : IsNet image entry net
-  pub paths : HasPaths image entry net
+  -- Its net is the program's, and the runs go along paths of it.
+  pub is_net : IsNet image entry analysis.net
+  pub paths : HasPaths image entry analysis.net
   -- The net's integer program under the profile.
   pub program : Program
-  pub is_program : IsProgramOf net (place_price profile image net) program
+  pub is_program : IsProgramOf analysis.net (place_price profile image analysis.net) program
   -- The certificate is valid for this program: its counts are feasible, and their value is its bound. Its tree is one
   -- leaf, which shows the bound. The counts' value is told in the second line.
   pub valid : IsValid program analysis.certificate
@@ -103,7 +102,7 @@ pub record IsAnalysisOf (image : Image) (profile : Profile) (entry : ℕ) (analy
   pub greatest : (counts : ℕ → ℕ) → IsFeasible program counts → value_of program counts ≤ℤ pos analysis.certificate.bound
   -- The program allows the counts of each run that the headline speaks of, and their value is the run's cycles. So no
   -- such run takes more cycles than the bound.
-  pub counted : CountsRuns image profile entry net program
+  pub counted : CountsRuns image profile entry analysis.net program
   pub bounds : Bounds image profile entry analysis.certificate.bound
 
 -- The error for a fault of the code.

@@ -8,6 +8,7 @@ use crate::program::analyse_program;
 use crate::refusal::{ConfigKind, Refusal, RefusalKind};
 use cache_config::{ConfigFault, Profile};
 use elf_mips::{ElfFault, Image, read_image};
+use flow_net::Net;
 use ipet_program::Certificate;
 use std::alloc::{AllocError, Global};
 use unit_graph::CodeFault;
@@ -15,6 +16,8 @@ use unit_graph::CodeFault;
 /// What the analysis of a file found.
 #[derive(Debug, Drop)]
 pub struct Analysis {
+    /// The net of the program, along whose arcs its runs go.
+    pub net: Net,
     /// The certificate of the cycles that the entry function takes at most.
     pub certificate: Certificate,
 }

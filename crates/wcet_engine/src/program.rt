@@ -51,5 +51,5 @@ pub fn analyse_program(
     let nests = find_loops(alloc, &graphs, image)?;
     let net = net_of(alloc, entry, &graphs, &nests)?;
     let certificate = certify(alloc, image, profile, entry, &net)?;
-    Ok(Analysis { certificate })
+    Ok(Analysis { net, certificate })
 }
