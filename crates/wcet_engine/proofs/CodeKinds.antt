@@ -2,7 +2,7 @@
 use Rattle.std.proofs.Common.{◌≡◌, ℕ, ◌+◌, ◌<◌, ◌&&◌, Bool, true, false, cond, Some, None, refl, subst, arith}
 use Rattle.elf_mips.specs.declared.image.Image.{Image}
 use Rattle.elf_mips.specs.Segments.{code_at, is_writable_word}
-use Rattle.loop_nest.specs.Programs.{TellsKindIn, TellsFault as TellsLoops}
+use Rattle.loop_nest.specs.Programs.{TellsKindIn}
 use Rattle.loop_nest.specs.declared.nest.Nests.{Nests}
 use Rattle.mips_decode.specs.declared.instr.Instr.{Instr}
 use Rattle.mips_decode.specs.Records.{needs_target}
@@ -14,14 +14,10 @@ use Rattle.net_model.specs.declared.unit.Content.TheVariants.{Unit as Stands, Fa
 use Rattle.net_model.specs.Faults.{HasNoFault, IsFirstFault, Offends, faulty, recursive, rank as code_rank}
 use Rattle.net_model.specs.Targets.{is_none, linked_content, links_elsewhere, targets_at}
 use Rattle.net_model.specs.Units.{Word, Holds, Lacks, content_at, content_of, is_transfer, known, with_slot, word_at}
-use Rattle.wcet_engine.specs.Stages.{IsCodeRefusal, TellsCode}
-use Rattle.wcet_engine.specs.ProgramFaults.{IsCodeFault, refused_by}
-use Rattle.unit_graph.specs.Graphs.{TellsFault as TellsWords}
-use Rattle.unit_graph.specs.declared.fault.CodeFault.{CodeFault}
+use Rattle.wcet_engine.specs.Layers.{IsFirst}
+use Rattle.wcet_engine.specs.ProgramFaults.{IsCodeFault}
 use Rattle.unit_graph.specs.declared.graph.Graphs.{Graphs}
 use Rattle.call_contexts.specs.Programs.{IsProgram}
-use Rattle.unit_graph.specs.declared.fault.CodeFault.TheVariants.{Bad, Memory}
-use Rattle.wcet_engine.specs.Refusals.{kind_of_code}
 use Rattle.wcet_engine.proofs.ProgramLoops.{none-irreducible, none-unbounded}
 
 -- Neither an address nor a call is a fault of the loops.
@@ -77,7 +73,7 @@ offence-kind : (image : Image) (entry : ℕ) (kind : CodeKind) (place : ℕ) →
 offence-kind image entry _ _ (faulty kind place address reached e) = linked-kind image address place kind (content_at image address) refl e
 offence-kind image entry _ _ (recursive function is) = tt
 
-word-rank : (kind : CodeKind) → IsOfWord kind → code_rank kind < 6
+word-rank : (kind : CodeKind) → IsOfWord kind → code_rank kind < code_rank code.Irreducible
 word-rank code.WritableCode is = omega arith
 word-rank code.UnknownWord is = omega arith
 word-rank code.TransferInSlot is = omega arith
@@ -98,7 +94,7 @@ offence-fault image entry code.Recursion place offends = offends
 offence-fault image entry code.Irreducible place offends = absurd (offence-kind image entry code.Irreducible place offends)
 offence-fault image entry code.NoBound place offends = absurd (offence-kind image entry code.NoBound place offends)
 
-fault-offence : (image : Image) (entry : ℕ) (kind : CodeKind) (place : ℕ) → code_rank kind < 6 → IsCodeFault kind image entry place → Offends image entry kind place
+fault-offence : (image : Image) (entry : ℕ) (kind : CodeKind) (place : ℕ) → code_rank kind < code_rank code.Irreducible → IsCodeFault kind image entry place → Offends image entry kind place
 fault-offence image entry code.WritableCode place low fault = fault
 fault-offence image entry code.UnknownWord place low fault = fault
 fault-offence image entry code.TransferInSlot place low fault = fault
@@ -108,37 +104,34 @@ fault-offence image entry code.Recursion place low fault = fault
 fault-offence image entry code.Irreducible place low fault = absurd (omega (arith, low))
 fault-offence image entry code.NoBound place low fault = absurd (omega (arith, low))
 
--- The first fault of an address or a call.
-pub word-refusal : (image : Image) (entry : ℕ) (kind : CodeKind) (place : ℕ) → IsFirstFault image entry kind place →
-    IsCodeRefusal image entry (kind_of_code kind) place
-word-refusal image entry kind place first =
+-- The first fault of an address or a call is the first one of the code and its loops.
+abbrev pub IsFirstCodeFault : Image → ℕ → CodeKind → ℕ → Type 0
+IsFirstCodeFault image entry = IsFirst code_rank ◌<◌ (λ kind place. IsCodeFault kind image entry place)
+
+pub word-first : (image : Image) (entry : ℕ) (kind : CodeKind) (place : ℕ) → IsFirstFault image entry kind place →
+    IsFirstCodeFault image entry kind place
+word-first image entry kind place first =
     let low = word-rank kind (offence-kind image entry kind place first.offends) in
     record {
-      fault = kind;
-      same = refl;
       offends = offence-fault image entry kind place first.offends;
       first = λ other spot less fault. first.first other spot less (fault-offence image entry other spot (omega (arith, less, low)) fault);
       least = λ lesser less fault. first.least lesser less (fault-offence image entry kind lesser low fault);
     }
 
 -- The first fault of the loops, where there is none of these.
-pub loop-refusal : (image : Image) (entry : ℕ) (kind : CodeKind) (place : ℕ) → HasNoFault image entry → TellsKindIn image entry kind place →
-    IsCodeRefusal image entry (kind_of_code kind) place
-loop-refusal image entry code.Irreducible place faultless told = record {
-  fault = code.Irreducible;
-  same = refl;
+pub loop-first : (image : Image) (entry : ℕ) (kind : CodeKind) (place : ℕ) → HasNoFault image entry → TellsKindIn image entry kind place →
+    IsFirstCodeFault image entry kind place
+loop-first image entry code.Irreducible place faultless told = record {
   offends = told.here;
   first = λ other spot less fault. faultless other spot (fault-offence image entry other spot less fault);
   least = told.least;
 }
-loop-refusal image entry code.NoBound place faultless told = record {
-  fault = code.NoBound;
-  same = refl;
+loop-first image entry code.NoBound place faultless told = record {
   offends = told.here;
   first = λ other spot less fault. earlier other spot less fault;
   least = told.least;
 } where
-  earlier : (other : CodeKind) (spot : ℕ) → code_rank other < 7 → IsCodeFault other image entry spot → ⊥
+  earlier : (other : CodeKind) (spot : ℕ) → code_rank other < code_rank code.NoBound → IsCodeFault other image entry spot → ⊥
   earlier code.Irreducible spot less fault = told.accepted spot fault
   earlier code.NoBound spot less fault = absurd (omega (arith, less))
   earlier code.WritableCode spot less fault = faultless code.WritableCode spot fault
@@ -147,12 +140,12 @@ loop-refusal image entry code.NoBound place faultless told = record {
   earlier code.UnknownTarget spot less fault = faultless code.UnknownTarget spot fault
   earlier code.LinkRegister spot less fault = faultless code.LinkRegister spot fault
   earlier code.Recursion spot less fault = faultless code.Recursion spot fault
-loop-refusal image entry code.WritableCode place faultless told = absurd told
-loop-refusal image entry code.UnknownWord place faultless told = absurd told
-loop-refusal image entry code.TransferInSlot place faultless told = absurd told
-loop-refusal image entry code.UnknownTarget place faultless told = absurd told
-loop-refusal image entry code.LinkRegister place faultless told = absurd told
-loop-refusal image entry code.Recursion place faultless told = absurd told
+loop-first image entry code.WritableCode place faultless told = absurd told
+loop-first image entry code.UnknownWord place faultless told = absurd told
+loop-first image entry code.TransferInSlot place faultless told = absurd told
+loop-first image entry code.UnknownTarget place faultless told = absurd told
+loop-first image entry code.LinkRegister place faultless told = absurd told
+loop-first image entry code.Recursion place faultless told = absurd told
 
 -- Code without a fault whose loops are known has none of its kinds.
 pub code-faultless : (image : Image) (entry : ℕ) (graphs : Graphs) (nests : Nests) → IsProgram image entry graphs nests →
@@ -165,12 +158,3 @@ code-faultless image entry graphs nests are code.TransferInSlot place fault = ar
 code-faultless image entry graphs nests are code.UnknownTarget place fault = are.faultless code.UnknownTarget place fault
 code-faultless image entry graphs nests are code.LinkRegister place fault = are.faultless code.LinkRegister place fault
 code-faultless image entry graphs nests are code.Recursion place fault = are.faultless code.Recursion place fault
-
--- What the errors of both stages tell.
-pub word-tells : (image : Image) (entry : ℕ) (fault : CodeFault) → TellsWords image entry fault → TellsCode image entry (refused_by fault)
-word-tells image entry (Bad kind address) told = word-refusal image entry kind address told
-word-tells image entry Memory told = tt
-
-pub loop-tells : (image : Image) (entry : ℕ) (fault : CodeFault) → HasNoFault image entry → TellsLoops image entry fault → TellsCode image entry (refused_by fault)
-loop-tells image entry (Bad kind address) faultless told = loop-refusal image entry kind address faultless told
-loop-tells image entry Memory faultless told = tt

@@ -1,195 +1,103 @@
 -- The faults of the lengths and of the profile's text.
-use Rattle.std.proofs.Common.{◌≡◌, ℕ, ◌<◌, List, Contains, Some, true, refl, sym, subst, ◌∙◌, arith}
+use Rattle.std.proofs.Common.{◌≡◌, ℕ, List, [], ◌∷◌, All, Bool, Contains, Some, true, refl, sym, ap, subst, ◌∙◌, arith}
 use Rattle.std.specs.Prelude.{false}
-use Rattle.std.specs.Ordering.{is_lt, nat_cmp}
-use Rattle.std.specs.Cmp.Lexicographic.{slice_cmp}
 use Rattle.cache_config.specs.Faults.{is_before, key_fault, profile_faults, range_fault}
-use Rattle.cache_config.specs.Profiles.{Tells}
+use Rattle.cache_config.specs.Profiles.{Means, Tells}
 use Rattle.cache_config.specs.declared.fault.ConfigFault.{ConfigFault}
 use Rattle.cache_config.specs.declared.fault.ConfigFault.TheVariants as config_fault
+use Rattle.toml.specs.Data.{Members}
+use Rattle.wcet_engine.specs.declared.refusal.ConfigKind.TheVariants as config
 use Rattle.wcet_engine.specs.declared.refusal.RefusalKind.{RefusalKind}
-use Rattle.wcet_engine.specs.declared.refusal.RefusalKind.TheVariants.{TooLong, ConfigText, ConfigKey, ConfigRange, Short, NotElf, NotThisKind, BadTable, BadSegment, BadSection, BadRecord, NoSymbol, RegionClash, Unbuilt, WritableCode, UnknownWord, TransferInSlot, UnknownTarget, LinkRegister, Recursion, Irreducible, NoBound, NeverReturns, TooManyUnits, BoundTooLarge}
+use Rattle.wcet_engine.specs.declared.refusal.RefusalKind.TheVariants.{TooLong, Config}
 use Rattle.wcet_engine.specs.declared.refusal.Spot.{Spot}
 use Rattle.wcet_engine.specs.declared.refusal.Spot.TheVariants.{Number, Key}
-use Rattle.wcet_engine.specs.Faults.{HasKeyFault, HasRangeFault, IsFirstFault, IsLess, IsNoDocument, Offends, TellsFault, refused_for}
+use Rattle.wcet_engine.specs.Faults.{FaultOfKeys, FaultOfLength, FaultOfText, FaultOfValues, IsFirstFault, IsKeyFault, IsLess, IsNoDocument, IsRangeFault, TellsFault, refused_for}
 use Rattle.wcet_engine.specs.Given.{Fits, Given, IsLong, file_limit, given}
-use Rattle.wcet_engine.specs.Refusals.{at_key, at_number, rank}
-use Rattle.wcet_engine.proofs.FaultLemmas.{no-long}
+use Rattle.wcet_engine.specs.Layers.{IsFirst, OneKind}
+use Rattle.wcet_engine.specs.Refusals.{at_key, at_number, rank, says_at, says_at_key}
+use Rattle.wcet_engine.proofs.FaultLemmas.{after-keys, after-length, after-text, after-values, free-keys, free-length, free-text}
+use Rattle.wcet_engine.proofs.LayerLaws.{first-least, first-of}
 use Rattle.wcet_engine.proofs.SameFiles.{same-members}
+
+-- The first fault of a kind whose offenders have one number alone, or are keys.
+first-number : (kind : RefusalKind) (at : ℕ) (Says : Type 0) → Says →
+    IsFirst rank IsLess (OneKind kind (says_at (λ place. (place ≡ at) × Says))) kind (Number at)
+first-number kind at Says says =
+    first-least rank IsLess (says_at (λ place. (place ≡ at) × Says)) kind (Number at) (refl, says) lesser where
+      lesser : (spot : Spot) → IsLess spot (Number at) → says_at (λ place. (place ≡ at) × Says) spot → ⊥
+      lesser (Number other) less offends = let same = offends.0 in omega (arith, less, same)
+      lesser (Key path) less offends = less
+
+first-path : (kind : RefusalKind) (path : List ℕ) (Offends : List ℕ → Type 0) → Offends path →
+    ((other : List ℕ) → IsLess (Key other) (Key path) → Offends other → ⊥) →
+    IsFirst rank IsLess (OneKind kind (says_at_key Offends)) kind (Key path)
+first-path kind path Offends offends least =
+    first-least rank IsLess (says_at_key Offends) kind (Key path) offends lesser where
+      lesser : (spot : Spot) → IsLess spot (Key path) → says_at_key Offends spot → ⊥
+      lesser (Number place) less fault = less
+      lesser (Key other) less fault = least other less fault
 
 -- A file above its limit is too long, before all else.
 pub first-long : (files : Given) → IsLong files → IsFirstFault files (at_number TooLong file_limit)
-first-long files long = record {
-  offends = (refl, long);
-  first = λ kind spot earlier offends. absurd (omega (arith, earlier));
-  least = λ spot less offends. lesser spot less offends;
-} where
-  lesser : (spot : Spot) → IsLess spot (Number file_limit) → Offends files TooLong spot → ⊥
-  lesser (Number other) less offends = absurd (omega (arith, less, offends.0))
-  lesser (Key path) less offends = less
+first-long files long =
+    first-of rank IsLess [] (FaultOfLength files) _ TooLong (Number file_limit) tt (after-length files)
+    (first-number TooLong file_limit (IsLong files) long)
 
--- A text that is no document is a fault before all but that.
-before-text : (files : Given) → Fits files → (kind : RefusalKind) (spot : Spot) → rank kind < 1 → Offends files kind spot → ⊥
-before-text files fits TooLong (Number place) earlier offends = no-long files fits offends.1
-before-text files fits TooLong (Key path) earlier offends = offends
-before-text files fits ConfigText spot earlier offends = absurd (omega (arith, earlier))
-before-text files fits ConfigKey spot earlier offends = absurd (omega (arith, earlier))
-before-text files fits ConfigRange spot earlier offends = absurd (omega (arith, earlier))
-before-text files fits Short spot earlier offends = absurd (omega (arith, earlier))
-before-text files fits NotElf spot earlier offends = absurd (omega (arith, earlier))
-before-text files fits NotThisKind spot earlier offends = absurd (omega (arith, earlier))
-before-text files fits BadTable spot earlier offends = absurd (omega (arith, earlier))
-before-text files fits BadSegment spot earlier offends = absurd (omega (arith, earlier))
-before-text files fits BadSection spot earlier offends = absurd (omega (arith, earlier))
-before-text files fits BadRecord spot earlier offends = absurd (omega (arith, earlier))
-before-text files fits NoSymbol spot earlier offends = absurd (omega (arith, earlier))
-before-text files fits RegionClash spot earlier offends = absurd (omega (arith, earlier))
-before-text files fits Unbuilt spot earlier offends = absurd (omega (arith, earlier))
-before-text files fits WritableCode spot earlier offends = absurd (omega (arith, earlier))
-before-text files fits UnknownWord spot earlier offends = absurd (omega (arith, earlier))
-before-text files fits TransferInSlot spot earlier offends = absurd (omega (arith, earlier))
-before-text files fits UnknownTarget spot earlier offends = absurd (omega (arith, earlier))
-before-text files fits LinkRegister spot earlier offends = absurd (omega (arith, earlier))
-before-text files fits Recursion spot earlier offends = absurd (omega (arith, earlier))
-before-text files fits Irreducible spot earlier offends = absurd (omega (arith, earlier))
-before-text files fits NoBound spot earlier offends = absurd (omega (arith, earlier))
-before-text files fits NeverReturns spot earlier offends = absurd (omega (arith, earlier))
-before-text files fits TooManyUnits spot earlier offends = absurd (omega (arith, earlier))
-before-text files fits BoundTooLarge spot earlier offends = absurd (omega (arith, earlier))
+-- A text that is no document.
+first-text : (files : Given) → Fits files → IsNoDocument files.config → IsFirstFault files (at_number (Config config.Text) 0)
+first-text files fits none =
+    first-of rank IsLess (FaultOfLength files ∷ []) (FaultOfText files) _ (Config config.Text) (Number 0)
+    (free-length files fits, tt) (after-text files) (first-number (Config config.Text) 0 (IsNoDocument files.config) none)
 
-first-text : (files : Given) → Fits files → IsNoDocument files.config → IsFirstFault files (at_number ConfigText 0)
-first-text files fits none = record {
-  offends = (refl, none);
-  first = before-text files fits;
-  least = λ spot less offends. lesser spot less;
-} where
-  lesser : (spot : Spot) → IsLess spot (Number 0) → ⊥
-  lesser (Number other) less = omega (arith, less)
-  lesser (Key path) less = less
+-- No fault comes before the first one.
+no-earlier : {F : Type 0} (before : F → F → Bool) (faults others : List F) (first other : F) → others ≡ faults →
+    All (λ fault. before fault first ≡ false) faults → Contains others other → before other first ≡ true → ⊥
+no-earlier before faults others first other same none there earlier =
+    let here = subst (λ items. Contains items other) same there in
+    let later : before other first ≡ false = subst (λ fault. before fault first ≡ false) here.2 (none here.0 other here.1) in
+    let no : true ≡ false = sym earlier ∙ later in cc
 
--- The faults of a text at keys, one before the other.
-key-less : (path other : List ℕ) → is_lt (slice_cmp nat_cmp path other) ≡ true → is_before (key_fault path) (key_fault other) ≡ true
-key-less path other less = less
-
-range-less : (path other : List ℕ) → is_lt (slice_cmp nat_cmp path other) ≡ true → is_before (range_fault path) (range_fault other) ≡ true
-range-less path other less = less
-
-key-range : (path other : List ℕ) → is_before (key_fault path) (range_fault other) ≡ true
-key-range path other = refl
-
--- None comes before the first one.
-no-key-before : (text path other : List ℕ) → Tells text (config_fault.Key path) → HasKeyFault text other →
-    is_before (key_fault other) (key_fault path) ≡ true → ⊥
-no-key-before text path other first fault before =
-    let members = same-members text fault.members first.members fault.means first.means in
-    let here = subst (λ ms. Contains (profile_faults ms) (key_fault other)) members fault.here in
-    let later : is_before (key_fault other) (key_fault path) ≡ false =
-    subst (λ f. is_before f (key_fault path) ≡ false) here.2 (first.first.first here.0 (key_fault other) here.1) in
-    let no : true ≡ false = sym before ∙ later in cc
-
-no-range-before : (text path other : List ℕ) → Tells text (config_fault.Range path) → HasRangeFault text other →
-    is_before (range_fault other) (range_fault path) ≡ true → ⊥
-no-range-before text path other first fault before =
-    let members = same-members text fault.members first.members fault.means first.means in
-    let here = subst (λ ms. Contains (profile_faults ms) (range_fault other)) members fault.here in
-    let later : is_before (range_fault other) (range_fault path) ≡ false =
-    subst (λ f. is_before f (range_fault path) ≡ false) here.2 (first.first.first here.0 (range_fault other) here.1) in
-    let no : true ≡ false = sym before ∙ later in cc
-
-no-key-ahead : (text path other : List ℕ) → Tells text (config_fault.Range path) → HasKeyFault text other →
-    is_before (key_fault other) (range_fault path) ≡ true → ⊥
-no-key-ahead text path other first fault before =
-    let members = same-members text fault.members first.members fault.means first.means in
-    let here = subst (λ ms. Contains (profile_faults ms) (key_fault other)) members fault.here in
-    let later : is_before (key_fault other) (range_fault path) ≡ false =
-    subst (λ f. is_before f (range_fault path) ≡ false) here.2 (first.first.first here.0 (key_fault other) here.1) in
-    let no : true ≡ false = sym before ∙ later in cc
+-- A text has one list of faults.
+faults-same : (text : List ℕ) (one other : Members) → Means text one → Means text other → profile_faults one ≡ profile_faults other
+faults-same text one other a b = ap profile_faults (same-members text one other a b)
 
 -- A key at fault.
-before-key : (elf text path : List ℕ) → Fits (given elf (Some text)) → Tells text (config_fault.Key path) →
-    (kind : RefusalKind) (spot : Spot) → rank kind < 2 → Offends (given elf (Some text)) kind spot → ⊥
-before-key elf text path fits first TooLong (Number place) earlier offends = no-long (given elf (Some text)) fits offends.1
-before-key elf text path fits first TooLong (Key other) earlier offends = offends
-before-key elf text path fits first ConfigText (Number place) earlier offends = offends.1 first.members first.means
-before-key elf text path fits first ConfigText (Key other) earlier offends = offends
-before-key elf text path fits first ConfigKey spot earlier offends = absurd (omega (arith, earlier))
-before-key elf text path fits first ConfigRange spot earlier offends = absurd (omega (arith, earlier))
-before-key elf text path fits first Short spot earlier offends = absurd (omega (arith, earlier))
-before-key elf text path fits first NotElf spot earlier offends = absurd (omega (arith, earlier))
-before-key elf text path fits first NotThisKind spot earlier offends = absurd (omega (arith, earlier))
-before-key elf text path fits first BadTable spot earlier offends = absurd (omega (arith, earlier))
-before-key elf text path fits first BadSegment spot earlier offends = absurd (omega (arith, earlier))
-before-key elf text path fits first BadSection spot earlier offends = absurd (omega (arith, earlier))
-before-key elf text path fits first BadRecord spot earlier offends = absurd (omega (arith, earlier))
-before-key elf text path fits first NoSymbol spot earlier offends = absurd (omega (arith, earlier))
-before-key elf text path fits first RegionClash spot earlier offends = absurd (omega (arith, earlier))
-before-key elf text path fits first Unbuilt spot earlier offends = absurd (omega (arith, earlier))
-before-key elf text path fits first WritableCode spot earlier offends = absurd (omega (arith, earlier))
-before-key elf text path fits first UnknownWord spot earlier offends = absurd (omega (arith, earlier))
-before-key elf text path fits first TransferInSlot spot earlier offends = absurd (omega (arith, earlier))
-before-key elf text path fits first UnknownTarget spot earlier offends = absurd (omega (arith, earlier))
-before-key elf text path fits first LinkRegister spot earlier offends = absurd (omega (arith, earlier))
-before-key elf text path fits first Recursion spot earlier offends = absurd (omega (arith, earlier))
-before-key elf text path fits first Irreducible spot earlier offends = absurd (omega (arith, earlier))
-before-key elf text path fits first NoBound spot earlier offends = absurd (omega (arith, earlier))
-before-key elf text path fits first NeverReturns spot earlier offends = absurd (omega (arith, earlier))
-before-key elf text path fits first TooManyUnits spot earlier offends = absurd (omega (arith, earlier))
-before-key elf text path fits first BoundTooLarge spot earlier offends = absurd (omega (arith, earlier))
-
 first-key : (elf text path : List ℕ) → Fits (given elf (Some text)) → Tells text (config_fault.Key path) →
-    IsFirstFault (given elf (Some text)) (at_key ConfigKey path)
-first-key elf text path fits first = record {
-  offends = record { members = first.members; means = first.means; here = first.first.here };
-  first = before-key elf text path fits first;
-  least = λ spot less offends. lesser spot less offends;
-} where
-  lesser : (spot : Spot) → IsLess spot (Key path) → Offends (given elf (Some text)) ConfigKey spot → ⊥
-  lesser (Number place) less offends = less
-  lesser (Key other) less offends = no-key-before text path other first offends (key-less other path less)
+    IsFirstFault (given elf (Some text)) (at_key (Config config.Key) path)
+first-key elf text path fits first =
+    let files = given elf (Some text) in
+    first-of rank IsLess (FaultOfLength files ∷ FaultOfText files ∷ []) (FaultOfKeys files) _ (Config config.Key) (Key path)
+    (free-length files fits, (free-text files (λ none. none first.members first.means), tt)) (after-keys files)
+    (first-path (Config config.Key) path (IsKeyFault files.config)
+    (record { members = first.members; means = first.means; here = first.first.here })
+    (λ other less fault.
+    no-earlier is_before (profile_faults first.members) (profile_faults fault.members) (key_fault path) (key_fault other)
+    (faults-same text fault.members first.members fault.means first.means) first.first.first fault.here less))
 
 -- A value at fault.
-before-range : (elf text path : List ℕ) → Fits (given elf (Some text)) → Tells text (config_fault.Range path) →
-    (kind : RefusalKind) (spot : Spot) → rank kind < 3 → Offends (given elf (Some text)) kind spot → ⊥
-before-range elf text path fits first TooLong (Number place) earlier offends = no-long (given elf (Some text)) fits offends.1
-before-range elf text path fits first TooLong (Key other) earlier offends = offends
-before-range elf text path fits first ConfigText (Number place) earlier offends = offends.1 first.members first.means
-before-range elf text path fits first ConfigText (Key other) earlier offends = offends
-before-range elf text path fits first ConfigKey (Number place) earlier offends = offends
-before-range elf text path fits first ConfigKey (Key other) earlier offends =
-    no-key-ahead text path other first offends (key-range other path)
-before-range elf text path fits first ConfigRange spot earlier offends = absurd (omega (arith, earlier))
-before-range elf text path fits first Short spot earlier offends = absurd (omega (arith, earlier))
-before-range elf text path fits first NotElf spot earlier offends = absurd (omega (arith, earlier))
-before-range elf text path fits first NotThisKind spot earlier offends = absurd (omega (arith, earlier))
-before-range elf text path fits first BadTable spot earlier offends = absurd (omega (arith, earlier))
-before-range elf text path fits first BadSegment spot earlier offends = absurd (omega (arith, earlier))
-before-range elf text path fits first BadSection spot earlier offends = absurd (omega (arith, earlier))
-before-range elf text path fits first BadRecord spot earlier offends = absurd (omega (arith, earlier))
-before-range elf text path fits first NoSymbol spot earlier offends = absurd (omega (arith, earlier))
-before-range elf text path fits first RegionClash spot earlier offends = absurd (omega (arith, earlier))
-before-range elf text path fits first Unbuilt spot earlier offends = absurd (omega (arith, earlier))
-before-range elf text path fits first WritableCode spot earlier offends = absurd (omega (arith, earlier))
-before-range elf text path fits first UnknownWord spot earlier offends = absurd (omega (arith, earlier))
-before-range elf text path fits first TransferInSlot spot earlier offends = absurd (omega (arith, earlier))
-before-range elf text path fits first UnknownTarget spot earlier offends = absurd (omega (arith, earlier))
-before-range elf text path fits first LinkRegister spot earlier offends = absurd (omega (arith, earlier))
-before-range elf text path fits first Recursion spot earlier offends = absurd (omega (arith, earlier))
-before-range elf text path fits first Irreducible spot earlier offends = absurd (omega (arith, earlier))
-before-range elf text path fits first NoBound spot earlier offends = absurd (omega (arith, earlier))
-before-range elf text path fits first NeverReturns spot earlier offends = absurd (omega (arith, earlier))
-before-range elf text path fits first TooManyUnits spot earlier offends = absurd (omega (arith, earlier))
-before-range elf text path fits first BoundTooLarge spot earlier offends = absurd (omega (arith, earlier))
-
 first-range : (elf text path : List ℕ) → Fits (given elf (Some text)) → Tells text (config_fault.Range path) →
-    IsFirstFault (given elf (Some text)) (at_key ConfigRange path)
-first-range elf text path fits first = record {
-  offends = record { members = first.members; means = first.means; here = first.first.here };
-  first = before-range elf text path fits first;
-  least = λ spot less offends. lesser spot less offends;
-} where
-  lesser : (spot : Spot) → IsLess spot (Key path) → Offends (given elf (Some text)) ConfigRange spot → ⊥
-  lesser (Number place) less offends = less
-  lesser (Key other) less offends = no-range-before text path other first offends (range-less other path less)
+    IsFirstFault (given elf (Some text)) (at_key (Config config.Range) path)
+first-range elf text path fits first =
+    let files = given elf (Some text) in
+    first-of rank IsLess (FaultOfLength files ∷ FaultOfText files ∷ FaultOfKeys files ∷ []) (FaultOfValues files) _
+    (Config config.Range) (Key path) (
+      free-length files fits,
+      (
+        free-text files (λ none. none first.members first.means),
+        (
+          free-keys files (λ other fault.
+              no-earlier is_before (profile_faults first.members) (profile_faults fault.members) (range_fault path) (key_fault other)
+              (faults-same text fault.members first.members fault.means first.means) first.first.first fault.here refl),
+          tt,
+        ),
+      ),
+    )
+    (after-values files)
+    (first-path (Config config.Range) path (IsRangeFault files.config)
+    (record { members = first.members; means = first.means; here = first.first.here })
+    (λ other less fault.
+    no-earlier is_before (profile_faults first.members) (profile_faults fault.members) (range_fault path) (range_fault other)
+    (faults-same text fault.members first.members fault.means first.means) first.first.first fault.here less))
 
 -- What the reader of profiles tells is the first fault of the files.
 pub tells-config : (elf text : List ℕ) (fault : ConfigFault) → Fits (given elf (Some text)) → Tells text fault →

@@ -3,6 +3,7 @@ pub mod FaultLemmas
 pub mod FileFaultLemmas
 pub mod ConfigFaultLemmas
 pub mod ReadLemmas
+pub mod LayerLaws
 pub mod LeastLemmas
 pub mod NetBound
 pub mod ProgramFaultLemmas

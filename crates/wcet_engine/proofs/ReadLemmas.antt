@@ -5,9 +5,13 @@ use Rattle.std.proofs.lemmas.Bool.{le-ltb, lt-ltb}
 use Rattle.std.specs.declared.alloc.Global.{Global}
 use Rattle.std.specs.declared.vec.Vec.{Vec}
 use Rattle.wcet_engine.specs.declared.answer.Answer.{Answer}
+use Rattle.wcet_engine.specs.declared.answer.Answer.TheVariants.{Refused}
 use Rattle.wcet_engine.specs.declared.contents.Contents.{Contents}
+use Rattle.wcet_engine.specs.declared.refusal.RefusalKind.TheVariants.{TooLong}
 use Rattle.wcet_engine.specs.Answers.{IsAnswer, IsAnswerTo}
 use Rattle.wcet_engine.specs.Given.{AreRead, Given, IsFound, file_limit, given, given_of, with_elf}
+use Rattle.wcet_engine.specs.Refusals.{at_number}
+use Rattle.wcet_engine.proofs.ConfigFaultLemmas.{first-long}
 
 -- The ELF file is too long.
 pub long-elf : (told : List ℕ → Option (List ℕ)) (config found : Option (List ℕ)) → IfSome found (IsFound None) →
@@ -51,3 +55,8 @@ pub answer-read : {E : Type 0} (files : Option Given) (contents : Contents) (res
 answer-read files contents (Err error) read told = told
 answer-read None contents (Ok answer) read told = tt
 answer-read (Some given) contents (Ok answer) read told = subst (λ (files : Given). IsAnswerTo files answer) read told
+
+-- What is answered where a file is too long.
+pub answer-long : (files : Option Given) → IfSome files (AreRead None) → IsAnswer files (Refused (at_number TooLong file_limit))
+answer-long None long = tt
+answer-long (Some given) long = first-long given long

@@ -1,5 +1,5 @@
 -- Images with the same segments and records have the same program at an entry: its units, loops, nets and faults.
-use Rattle.std.proofs.Common.{◌≡◌, ℕ, ◌+◌, ◌<◌, cond, List, Option, Some, None, refl, ap, subst, ◌∙◌}
+use Rattle.std.proofs.Common.{◌≡◌, ℕ, ◌+◌, ◌<◌, inl, inr, cond, List, Option, Some, None, refl, ap, subst, ◌∙◌}
 use Rattle.std.proofs.Math.Path.{fun_ext}
 use Rattle.cache_config.specs.Instructions.{costs_of}
 use Rattle.cache_config.specs.declared.profile.Profile.{Profile}
@@ -22,7 +22,6 @@ use Rattle.net_model.proofs.SameCode.{IsSameCode, function-same, offends-same}
 use Rattle.net_model.proofs.SameNets.{irreducible-same, net-same, unbounded-same}
 use Rattle.loop_nest.specs.Programs.{IsIrreducibleIn, IsUnboundedIn}
 use Rattle.wcet_engine.specs.declared.refusal.RefusalKind.{RefusalKind}
-use Rattle.wcet_engine.specs.declared.refusal.RefusalKind.TheVariants.{TooLong, ConfigText, ConfigKey, ConfigRange, Short, NotElf, NotThisKind, BadTable, BadSegment, BadSection, BadRecord, NoSymbol, RegionClash, Unbuilt, WritableCode, UnknownWord, TransferInSlot, UnknownTarget, LinkRegister, Recursion, Irreducible, NoBound, NeverReturns, TooManyUnits, BoundTooLarge}
 use Rattle.wcet_engine.specs.ProgramFaults.{IsCodeFault, IsTooLarge, IsTooMany, OffendsIn}
 use Rattle.wcet_engine.proofs.SameCosts.{HaveSameCosts, same-price}
 
@@ -105,28 +104,21 @@ many-same a b entry same is = record {
 -- So are the faults of the program, under profiles with the same costs.
 pub program-same : (a b : Image) (profile other : Profile) (entry : ℕ) (kind : RefusalKind) (place : ℕ) → IsSame a b →
     HaveSameCosts profile other → OffendsIn a profile entry kind place → OffendsIn b other entry kind place
-program-same a b profile other entry TooLong place same costs offends = absurd offends
-program-same a b profile other entry ConfigText place same costs offends = absurd offends
-program-same a b profile other entry ConfigKey place same costs offends = absurd offends
-program-same a b profile other entry ConfigRange place same costs offends = absurd offends
-program-same a b profile other entry Short place same costs offends = absurd offends
-program-same a b profile other entry NotElf place same costs offends = absurd offends
-program-same a b profile other entry NotThisKind place same costs offends = absurd offends
-program-same a b profile other entry BadTable place same costs offends = absurd offends
-program-same a b profile other entry BadSegment place same costs offends = absurd offends
-program-same a b profile other entry BadSection place same costs offends = absurd offends
-program-same a b profile other entry BadRecord place same costs offends = absurd offends
-program-same a b profile other entry NoSymbol place same costs offends = absurd offends
-program-same a b profile other entry RegionClash place same costs offends = absurd offends
-program-same a b profile other entry Unbuilt place same costs offends = absurd offends
-program-same a b profile other entry WritableCode place same costs offends = fault-same a b entry code.WritableCode place same offends
-program-same a b profile other entry UnknownWord place same costs offends = fault-same a b entry code.UnknownWord place same offends
-program-same a b profile other entry TransferInSlot place same costs offends = fault-same a b entry code.TransferInSlot place same offends
-program-same a b profile other entry UnknownTarget place same costs offends = fault-same a b entry code.UnknownTarget place same offends
-program-same a b profile other entry LinkRegister place same costs offends = fault-same a b entry code.LinkRegister place same offends
-program-same a b profile other entry Recursion place same costs offends = fault-same a b entry code.Recursion place same offends
-program-same a b profile other entry Irreducible place same costs offends = fault-same a b entry code.Irreducible place same offends
-program-same a b profile other entry NoBound place same costs offends = fault-same a b entry code.NoBound place same offends
-program-same a b profile other entry NeverReturns place same costs offends = (offends.0, no_return-same a b entry (code-of a b same) offends.1)
-program-same a b profile other entry TooManyUnits place same costs offends = (offends.0, many-same a b entry same offends.1)
-program-same a b profile other entry BoundTooLarge place same costs offends = (offends.0, large-same a b profile other entry same costs offends.1)
+program-same a b profile other entry kind place same costs (inl fault) = inl (record {
+  inner = fault.inner;
+  same = fault.same;
+  offends = fault-same a b entry fault.inner place same fault.offends;
+})
+program-same a b profile other entry kind place same costs (inr (inl fault)) = inr (inl (record {
+  same = fault.same;
+  offends = (fault.offends.0, no_return-same a b entry (code-of a b same) fault.offends.1);
+}))
+program-same a b profile other entry kind place same costs (inr (inr (inl fault))) = inr (inr (inl (record {
+  same = fault.same;
+  offends = (fault.offends.0, many-same a b entry same fault.offends.1);
+})))
+program-same a b profile other entry kind place same costs (inr (inr (inr (inl fault)))) = inr (inr (inr (inl (record {
+  same = fault.same;
+  offends = (fault.offends.0, large-same a b profile other entry same costs fault.offends.1);
+}))))
+program-same a b profile other entry kind place same costs (inr (inr (inr (inr none)))) = absurd none

@@ -1,5 +1,5 @@
 -- The analysis of a program without a fault.
-use Rattle.std.proofs.Common.{◌≡◌, ℕ, ◌+◌, ◌^◌, min, refl, subst, arith}
+use Rattle.std.proofs.Common.{◌≡◌, ℕ, ◌^◌, min, refl, subst, arith}
 use Rattle.cache_config.specs.declared.profile.Profile.{Profile}
 use Rattle.call_contexts.specs.Programs.{HasNoReturn, HasTooMany, IsProgram}
 use Rattle.call_contexts.proofs.NetOnce.{net-once}
@@ -11,10 +11,9 @@ use Rattle.ipet_program.proofs.CertificateLaw.{certificate-bound}
 use Rattle.loop_nest.specs.declared.nest.Nests.{Nests}
 use Rattle.unit_graph.specs.declared.graph.Graphs.{Graphs}
 use Rattle.wcet_engine.specs.ProgramFaults.{IsAnalysisOf, IsLargeNet, IsTooLarge, IsTooMany}
-use Rattle.wcet_engine.specs.Refusals.{rank}
 use Rattle.wcet_engine.specs.Stages.{Certifies, IsNetOf}
 use Rattle.wcet_engine.proofs.CodeKinds.{code-faultless}
-use Rattle.wcet_engine.proofs.ProgramFaultLemmas.{free-whole, none-in}
+use Rattle.wcet_engine.proofs.ProgramFaultLemmas.{free-program}
 use Rattle.wcet_engine.proofs.NetBound.{counted-bounds, counts-runs}
 
 -- The sizes that are told are above the limits.
@@ -54,17 +53,14 @@ fitting image profile entry net certificate is certifies large =
 -- A program without a fault is analysed.
 pub is-analysed : (image : Image) (profile : Profile) (entry : ℕ) (graphs : Graphs) (nests : Nests) (net : Net) (certificate : Certificate) →
     IsProgram image entry graphs nests → IsNetOf image entry net → Certifies image profile net certificate →
-    IsAnalysisOf image profile entry (record { certificate = certificate })
+    IsAnalysisOf image profile entry (record { net = net; certificate = certificate })
 is-analysed image profile entry graphs nests net certificate program is certifies =
     let greatest = certificate-bound certifies.program certificate certifies.checkable certifies.valid in
     let counted = counts-runs image profile entry net certifies.program is certifies.is in
     record {
-      faultless = λ kind place.
-          none-in image profile entry (rank kind + 1)
-          (free-whole image profile entry (code-faultless image entry graphs nests program) (can-return image entry net is)
-          (not-many image entry graphs nests net program is) (fitting image profile entry net certificate is certifies) (rank kind + 1))
-          kind place (omega arith);
-      net = net;
+      faultless =
+          free-program image profile entry (code-faultless image entry graphs nests program) (can-return image entry net is)
+          (not-many image entry graphs nests net program is) (fitting image profile entry net certificate is certifies);
       is_net = is.is_net;
       paths = is.paths;
       program = certifies.program;

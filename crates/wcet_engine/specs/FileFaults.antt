@@ -1,9 +1,8 @@
 -- An ELF file under a profile: its faults, which of them is answered, and what its analysis says where it has none.
-use Rattle.std.specs.Prelude.{◌≡◌, ℕ, ◌<◌, List, Contains, Option, Some, None, true}
+use Rattle.std.specs.Prelude.{◌≡◌, ℕ, ◌<◌, List, [], ◌∷◌, Contains, Option, Some, None, true}
 use Rattle.cache_config.specs.declared.profile.Profile.{Profile}
 use Rattle.elf_mips.specs.declared.fault.ElfFault.{ElfFault}
 use Rattle.elf_mips.specs.declared.fault.ElfFault.TheVariants as elf_fault
-use Rattle.elf_mips.specs.declared.fault.ElfKind.TheVariants as elf
 use Rattle.elf_mips.specs.declared.image.Image.{Image}
 use Rattle.elf_mips.specs.Faults.{offenders}
 use Rattle.elf_mips.specs.Image.{IsImage}
@@ -12,10 +11,11 @@ use Rattle.wcet_engine.specs.declared.analysis.Analysis.{Analysis}
 use Rattle.wcet_engine.specs.declared.analysis.Refused.{Refused}
 use Rattle.wcet_engine.specs.declared.analysis.Refused.TheVariants.{Fault, Memory}
 use Rattle.wcet_engine.specs.declared.refusal.RefusalKind.{RefusalKind}
-use Rattle.wcet_engine.specs.declared.refusal.RefusalKind.TheVariants.{Short, NotElf, NotThisKind, BadTable, BadSegment, BadSection, BadRecord, NoSymbol, RegionClash, Unbuilt}
+use Rattle.wcet_engine.specs.declared.refusal.RefusalKind.TheVariants.{Elf, NoSymbol, RegionClash, Unbuilt}
 use Rattle.wcet_engine.specs.Clash.{IsClash}
+use Rattle.wcet_engine.specs.Layers.{AnyOf, IsFirst, Nested, OneKind}
 use Rattle.wcet_engine.specs.ProgramFaults.{IsAnalysisOf, OffendsIn}
-use Rattle.wcet_engine.specs.Refusals.{at_number, kind_of, rank, says_at}
+use Rattle.wcet_engine.specs.Refusals.{at_number, rank, says_at}
 
 -- Where a program is entered: at the first symbol of the name that the profile has, or else at the file's own entry.
 abbrev pub entry_by : Image → Option (List ℕ) → Option ℕ
@@ -39,26 +39,45 @@ pub record OfProgram (file : List ℕ) (profile : Profile) (Says : Image → ℕ
   pub enters : entry_of image profile ≡ Some entry
   pub says : Says image entry
 
+-- What the profile asks for isn't built yet: it has the key `cache`.
+abbrev pub IsUnbuilt : Profile → Type 0
+IsUnbuilt profile = profile.unbuilt ≡ true
+
+-- The layers of the faults of a file under a profile: those that its reader finds, a name of the entry that no symbol
+-- has, memory that clashes, a profile that isn't built yet, and those of the program.
+abbrev pub FaultOfTables : List ℕ → RefusalKind → ℕ → Type 0
+FaultOfTables file = Nested Elf (λ kind place. Contains (offenders kind file) place)
+
+abbrev pub FaultOfEntry : List ℕ → Profile → RefusalKind → ℕ → Type 0
+FaultOfEntry file profile =
+    OneKind NoSymbol (λ place. (place ≡ 0) × OfImage file (λ image. entry_of image profile ≡ None))
+
+abbrev pub FaultOfMemory : List ℕ → Profile → RefusalKind → ℕ → Type 0
+FaultOfMemory file profile = OneKind RegionClash (λ place. OfImage file (λ image. IsClash image profile place))
+
+abbrev pub FaultOfCaches : Profile → RefusalKind → ℕ → Type 0
+FaultOfCaches profile = OneKind Unbuilt (λ place. (place ≡ 0) × IsUnbuilt profile)
+
+abbrev pub FaultOfProgram : List ℕ → Profile → RefusalKind → ℕ → Type 0
+FaultOfProgram file profile kind place =
+    OfProgram file profile (λ image entry. OffendsIn image profile entry kind place)
+
+abbrev pub file_layers : List ℕ → Profile → List (RefusalKind → ℕ → Type 0)
+file_layers file profile =
+    FaultOfTables file
+    ∷ FaultOfEntry file profile
+    ∷ FaultOfMemory file profile
+    ∷ FaultOfCaches profile
+    ∷ FaultOfProgram file profile
+    ∷ []
+
 -- A kind has an offender in the file under the profile, at a place.
 abbrev pub OffendsOf : List ℕ → Profile → RefusalKind → ℕ → Type 0
-OffendsOf file profile Short place = Contains (offenders elf.Short file) place
-OffendsOf file profile NotElf place = Contains (offenders elf.NotElf file) place
-OffendsOf file profile NotThisKind place = Contains (offenders elf.NotThisKind file) place
-OffendsOf file profile BadTable place = Contains (offenders elf.BadTable file) place
-OffendsOf file profile BadSegment place = Contains (offenders elf.BadSegment file) place
-OffendsOf file profile BadSection place = Contains (offenders elf.BadSection file) place
-OffendsOf file profile BadRecord place = Contains (offenders elf.BadRecord file) place
-OffendsOf file profile NoSymbol place = (place ≡ 0) × OfImage file (λ image. entry_of image profile ≡ None)
-OffendsOf file profile RegionClash place = OfImage file (λ image. IsClash image profile place)
-OffendsOf file profile Unbuilt place = (place ≡ 0) × (profile.unbuilt ≡ true)
-OffendsOf file profile kind place = OfProgram file profile (λ image entry. OffendsIn image profile entry kind place)
+OffendsOf file profile = AnyOf (file_layers file profile)
 
--- The first fault of the file under the profile: no earlier kind has an offender, and no lesser place has one of this
--- kind.
-pub record IsFirstFaultOf (file : List ℕ) (profile : Profile) (kind : RefusalKind) (place : ℕ) : Type 0 where
-  pub offends : OffendsOf file profile kind place
-  pub first : (other : RefusalKind) (spot : ℕ) → rank other < rank kind → OffendsOf file profile other spot → ⊥
-  pub least : (lesser : ℕ) → lesser < place → OffendsOf file profile kind lesser → ⊥
+-- The first fault of the file under the profile.
+abbrev pub IsFirstFaultOf : List ℕ → Profile → RefusalKind → ℕ → Type 0
+IsFirstFaultOf file profile = IsFirst rank ◌<◌ (OffendsOf file profile)
 
 -- What an error says of a file under a profile; want of memory says nothing.
 abbrev pub TellsFaultOf : List ℕ → Profile → Refused → Type 0
@@ -72,5 +91,5 @@ pub record IsAnalysisFor (file : List ℕ) (profile : Profile) (analysis : Analy
 
 -- The error for a fault of the reader.
 abbrev pub refused_of : ElfFault → Refused
-refused_of (elf_fault.Bad kind offset) = Fault (at_number (kind_of kind) offset)
+refused_of (elf_fault.Bad kind offset) = Fault (at_number (Elf kind) offset)
 refused_of elf_fault.Memory = Memory

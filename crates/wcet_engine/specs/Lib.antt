@@ -10,5 +10,6 @@ pub mod ProgramFaults
 pub mod Refusals
 pub mod Runs
 pub mod Headline
+pub mod Layers
 pub mod Texts
 pub mod Words

@@ -1,6 +1,6 @@
 -- The program at an entry of an image, under a profile: its faults, which of them is answered, and what its analysis
 -- says where it has none.
-use Rattle.std.specs.Prelude.{◌≡◌, ℕ, ◌<◌, ◌≤ℤ◌, pos}
+use Rattle.std.specs.Prelude.{◌≡◌, ℕ, ◌<◌, ◌≤ℤ◌, pos, List, [], ◌∷◌}
 use Rattle.cache_config.specs.declared.profile.Profile.{Profile}
 use Rattle.call_contexts.specs.Programs.{AreTooMany, HasNoReturn}
 use Rattle.call_contexts.specs.Sizes.{AreSizes}
@@ -21,9 +21,10 @@ use Rattle.wcet_engine.specs.declared.analysis.Analysis.{Analysis}
 use Rattle.wcet_engine.specs.declared.analysis.Refused.{Refused}
 use Rattle.wcet_engine.specs.declared.analysis.Refused.TheVariants.{Fault, Memory}
 use Rattle.wcet_engine.specs.declared.refusal.RefusalKind.{RefusalKind}
-use Rattle.wcet_engine.specs.declared.refusal.RefusalKind.TheVariants.{WritableCode, UnknownWord, TransferInSlot, UnknownTarget, LinkRegister, Recursion, Irreducible, NoBound, NeverReturns, TooManyUnits, BoundTooLarge}
+use Rattle.wcet_engine.specs.declared.refusal.RefusalKind.TheVariants.{Code, NeverReturns, TooManyUnits, BoundTooLarge}
 use Rattle.wcet_engine.specs.Certificates.{IsOneLeaf}
-use Rattle.wcet_engine.specs.Refusals.{at_number, kind_of_code, rank, says_at}
+use Rattle.wcet_engine.specs.Layers.{AnyOf, IsFirst, Nested, OneKind}
+use Rattle.wcet_engine.specs.Refusals.{at_number, rank, says_at}
 use Rattle.wcet_engine.specs.Runs.{CountsRuns, HasPaths}
 use Rattle.wcet_engine.specs.Headline.{Bounds}
 
@@ -51,26 +52,31 @@ pub record IsTooLarge (image : Image) (profile : Profile) (entry : ℕ) : Type 0
   pub is_net : IsNet image entry net
   pub large : IsLargeNet image profile net
 
+-- The layers of a program's faults: those of its code and its loops, an entry function that never returns, too many
+-- contexts or places, and a crude bound above its limit.
+abbrev pub FaultOfCode : Image → ℕ → RefusalKind → ℕ → Type 0
+FaultOfCode image entry = Nested Code (λ kind place. IsCodeFault kind image entry place)
+
+abbrev pub FaultOfReturn : Image → ℕ → RefusalKind → ℕ → Type 0
+FaultOfReturn image entry = OneKind NeverReturns (λ place. (place ≡ entry) × HasNoReturn image entry)
+
+abbrev pub FaultOfSize : Image → ℕ → RefusalKind → ℕ → Type 0
+FaultOfSize image entry = OneKind TooManyUnits (λ place. (place ≡ entry) × IsTooMany image entry)
+
+abbrev pub FaultOfBound : Image → Profile → ℕ → RefusalKind → ℕ → Type 0
+FaultOfBound image profile entry = OneKind BoundTooLarge (λ place. (place ≡ entry) × IsTooLarge image profile entry)
+
+abbrev pub program_layers : Image → Profile → ℕ → List (RefusalKind → ℕ → Type 0)
+program_layers image profile entry =
+    FaultOfCode image entry ∷ FaultOfReturn image entry ∷ FaultOfSize image entry ∷ FaultOfBound image profile entry ∷ []
+
 -- A kind has an offender in the program at a place. All other kinds are found before the program is looked at.
 abbrev pub OffendsIn : Image → Profile → ℕ → RefusalKind → ℕ → Type 0
-OffendsIn image profile entry WritableCode place = IsCodeFault code.WritableCode image entry place
-OffendsIn image profile entry UnknownWord place = IsCodeFault code.UnknownWord image entry place
-OffendsIn image profile entry TransferInSlot place = IsCodeFault code.TransferInSlot image entry place
-OffendsIn image profile entry UnknownTarget place = IsCodeFault code.UnknownTarget image entry place
-OffendsIn image profile entry LinkRegister place = IsCodeFault code.LinkRegister image entry place
-OffendsIn image profile entry Recursion place = IsCodeFault code.Recursion image entry place
-OffendsIn image profile entry Irreducible place = IsCodeFault code.Irreducible image entry place
-OffendsIn image profile entry NoBound place = IsCodeFault code.NoBound image entry place
-OffendsIn image profile entry NeverReturns place = (place ≡ entry) × HasNoReturn image entry
-OffendsIn image profile entry TooManyUnits place = (place ≡ entry) × IsTooMany image entry
-OffendsIn image profile entry BoundTooLarge place = (place ≡ entry) × IsTooLarge image profile entry
-OffendsIn image profile entry kind place = ⊥
+OffendsIn image profile entry = AnyOf (program_layers image profile entry)
 
--- The first fault of the program: no earlier kind has an offender in it, and no lesser place has one of this kind.
-pub record IsFirstFaultIn (image : Image) (profile : Profile) (entry : ℕ) (kind : RefusalKind) (place : ℕ) : Type 0 where
-  pub offends : OffendsIn image profile entry kind place
-  pub first : (other : RefusalKind) (spot : ℕ) → rank other < rank kind → OffendsIn image profile entry other spot → ⊥
-  pub least : (lesser : ℕ) → lesser < place → OffendsIn image profile entry kind lesser → ⊥
+-- The first fault of the program.
+abbrev pub IsFirstFaultIn : Image → Profile → ℕ → RefusalKind → ℕ → Type 0
+IsFirstFaultIn image profile entry = IsFirst rank ◌<◌ (OffendsIn image profile entry)
 
 -- What an error says of a program; want of memory says nothing.
 abbrev pub TellsFaultIn : Image → Profile → ℕ → Refused → Type 0
@@ -80,13 +86,12 @@ TellsFaultIn image profile entry Memory = Unit {0}
 -- What an analysis says of a program without a fault.
 pub record IsAnalysisOf (image : Image) (profile : Profile) (entry : ℕ) (analysis : Analysis) : Type 0 where
   pub faultless : (kind : RefusalKind) (place : ℕ) → OffendsIn image profile entry kind place → ⊥
-  -- Its net, along which its runs go.
-  pub net : Net
-  pub is_net : IsNet image entry net
-  pub paths : HasPaths image entry net
+  -- Its net is the program's, and the runs go along paths of it.
+  pub is_net : IsNet image entry analysis.net
+  pub paths : HasPaths image entry analysis.net
   -- The net's integer program under the profile.
   pub program : Program
-  pub is_program : IsProgramOf net (place_price profile image net) program
+  pub is_program : IsProgramOf analysis.net (place_price profile image analysis.net) program
   -- The certificate is valid for this program: its counts are feasible, and their value is its bound. Its tree is one
   -- leaf, which shows the bound. The counts' value is told in the second line.
   pub valid : IsValid program analysis.certificate
@@ -97,10 +102,10 @@ pub record IsAnalysisOf (image : Image) (profile : Profile) (entry : ℕ) (analy
   pub greatest : (counts : ℕ → ℕ) → IsFeasible program counts → value_of program counts ≤ℤ pos analysis.certificate.bound
   -- The program allows the counts of each run that the headline speaks of, and their value is the run's cycles. So no
   -- such run takes more cycles than the bound.
-  pub counted : CountsRuns image profile entry net program
+  pub counted : CountsRuns image profile entry analysis.net program
   pub bounds : Bounds image profile entry analysis.certificate.bound
 
 -- The error for a fault of the code.
 abbrev pub refused_by : CodeFault → Refused
-refused_by (code_fault.Bad kind address) = Fault (at_number (kind_of_code kind) address)
+refused_by (code_fault.Bad kind address) = Fault (at_number (Code kind) address)
 refused_by code_fault.Memory = Memory

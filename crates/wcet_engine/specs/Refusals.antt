@@ -1,14 +1,18 @@
 -- The kinds of refusals, in their order and by their names.
-use Rattle.std.specs.Prelude.{ℕ, List, codes}
-use Rattle.elf_mips.specs.declared.fault.ElfKind.{ElfKind}
+use Rattle.std.specs.Prelude.{ℕ, ◌==◌, Bool, true, false, List, [], ◌∷◌, codes}
+use Rattle.std.specs.List.{find, position_or_len}
+use Rattle.std.specs.Option.{option_map_or}
+use Rattle.elf_mips.specs.Faults.{order}
 use Rattle.elf_mips.specs.declared.fault.ElfKind.TheVariants as elf
-use Rattle.net_model.specs.declared.unit.CodeKind.{CodeKind}
+use Rattle.net_model.specs.Faults.{rank as code_rank}
 use Rattle.net_model.specs.declared.unit.CodeKind.TheVariants as code
+use Rattle.wcet_engine.specs.declared.refusal.ConfigKind.{ConfigKind}
+use Rattle.wcet_engine.specs.declared.refusal.ConfigKind.TheVariants as config
 use Rattle.wcet_engine.specs.declared.refusal.Refusal.{Refusal}
 use Rattle.wcet_engine.specs.declared.refusal.RefusalKind.{RefusalKind}
+use Rattle.wcet_engine.specs.declared.refusal.RefusalKind.TheVariants.{TooLong, Config, Elf, NoSymbol, RegionClash, Unbuilt, Code, NeverReturns, TooManyUnits, BoundTooLarge}
 use Rattle.wcet_engine.specs.declared.refusal.Spot.{Spot}
 use Rattle.wcet_engine.specs.declared.refusal.Spot.TheVariants.{Number, Key}
-use Rattle.wcet_engine.specs.declared.refusal.RefusalKind.TheVariants.{TooLong, ConfigText, ConfigKey, ConfigRange, Short, NotElf, NotThisKind, BadTable, BadSegment, BadSection, BadRecord, NoSymbol, RegionClash, Unbuilt, WritableCode, UnknownWord, TransferInSlot, UnknownTarget, LinkRegister, Recursion, Irreducible, NoBound, NeverReturns, TooManyUnits, BoundTooLarge}
 
 -- A fault at a place that is a number.
 abbrev pub at_number : RefusalKind → ℕ → Refusal
@@ -23,79 +27,75 @@ abbrev pub says_at : (ℕ → Type 0) → Spot → Type 0
 says_at Says (Number place) = Says place
 says_at Says (Key path) = ⊥
 
--- The rank of a kind: of several kinds that a file has, the one of the least rank is answered.
+-- What is said of the key of a path; it isn't said of a number.
+abbrev pub says_at_key : (List ℕ → Type 0) → Spot → Type 0
+says_at_key Says (Number place) = ⊥
+says_at_key Says (Key path) = Says path
+
+-- A kind with its name in a refusal line.
+pub record NamedKind : Type 0 where
+  pub kind : RefusalKind
+  pub name : List ℕ
+
+abbrev pub named : RefusalKind → List ℕ → NamedKind
+named kind name = record { kind = kind; name = name }
+
+-- All kinds, in the order in which they are looked for.
+abbrev pub named_kinds : List NamedKind
+named_kinds =
+    named TooLong (codes "too-long")
+    ∷ named (Config config.Text) (codes "config-text")
+    ∷ named (Config config.Key) (codes "config-key")
+    ∷ named (Config config.Range) (codes "config-range")
+    ∷ named (Elf elf.Short) (codes "short")
+    ∷ named (Elf elf.NotElf) (codes "not-elf")
+    ∷ named (Elf elf.NotThisKind) (codes "not-this-kind")
+    ∷ named (Elf elf.BadTable) (codes "bad-table")
+    ∷ named (Elf elf.BadSegment) (codes "bad-segment")
+    ∷ named (Elf elf.BadSection) (codes "bad-section")
+    ∷ named (Elf elf.BadRecord) (codes "bad-record")
+    ∷ named NoSymbol (codes "no-symbol")
+    ∷ named RegionClash (codes "region-clash")
+    ∷ named Unbuilt (codes "unbuilt")
+    ∷ named (Code code.WritableCode) (codes "writable-code")
+    ∷ named (Code code.UnknownWord) (codes "unknown-word")
+    ∷ named (Code code.TransferInSlot) (codes "transfer-in-slot")
+    ∷ named (Code code.UnknownTarget) (codes "unknown-target")
+    ∷ named (Code code.LinkRegister) (codes "link-register")
+    ∷ named (Code code.Recursion) (codes "recursion")
+    ∷ named (Code code.Irreducible) (codes "irreducible")
+    ∷ named (Code code.NoBound) (codes "no-bound")
+    ∷ named NeverReturns (codes "never-returns")
+    ∷ named TooManyUnits (codes "too-many-units")
+    ∷ named BoundTooLarge (codes "bound-too-large")
+    ∷ []
+
+-- Whether two kinds are the same.
+abbrev pub is_config : ConfigKind → ConfigKind → Bool
+is_config config.Text config.Text = true
+is_config config.Key config.Key = true
+is_config config.Range config.Range = true
+is_config one other = false
+
+abbrev pub is_kind : RefusalKind → RefusalKind → Bool
+is_kind TooLong TooLong = true
+is_kind (Config one) (Config other) = is_config one other
+is_kind (Elf one) (Elf other) = order one == order other
+is_kind NoSymbol NoSymbol = true
+is_kind RegionClash RegionClash = true
+is_kind Unbuilt Unbuilt = true
+is_kind (Code one) (Code other) = code_rank one == code_rank other
+is_kind NeverReturns NeverReturns = true
+is_kind TooManyUnits TooManyUnits = true
+is_kind BoundTooLarge BoundTooLarge = true
+is_kind one other = false
+
+-- The rank of a kind is its place among them: of several kinds that a file has, the one of the least rank is answered.
 abbrev pub rank : RefusalKind → ℕ
-rank TooLong = 0
-rank ConfigText = 1
-rank ConfigKey = 2
-rank ConfigRange = 3
-rank Short = 4
-rank NotElf = 5
-rank NotThisKind = 6
-rank BadTable = 7
-rank BadSegment = 8
-rank BadSection = 9
-rank BadRecord = 10
-rank NoSymbol = 11
-rank RegionClash = 12
-rank Unbuilt = 13
-rank WritableCode = 14
-rank UnknownWord = 15
-rank TransferInSlot = 16
-rank UnknownTarget = 17
-rank LinkRegister = 18
-rank Recursion = 19
-rank Irreducible = 20
-rank NoBound = 21
-rank NeverReturns = 22
-rank TooManyUnits = 23
-rank BoundTooLarge = 24
+rank kind = position_or_len (λ (known : NamedKind). is_kind known.kind kind) named_kinds
 
 -- The name of a kind in a refusal line.
 abbrev pub name_of : RefusalKind → List ℕ
-name_of TooLong = codes "too-long"
-name_of ConfigText = codes "config-text"
-name_of ConfigKey = codes "config-key"
-name_of ConfigRange = codes "config-range"
-name_of Short = codes "short"
-name_of NotElf = codes "not-elf"
-name_of NotThisKind = codes "not-this-kind"
-name_of BadTable = codes "bad-table"
-name_of BadSegment = codes "bad-segment"
-name_of BadSection = codes "bad-section"
-name_of BadRecord = codes "bad-record"
-name_of NoSymbol = codes "no-symbol"
-name_of RegionClash = codes "region-clash"
-name_of Unbuilt = codes "unbuilt"
-name_of WritableCode = codes "writable-code"
-name_of UnknownWord = codes "unknown-word"
-name_of TransferInSlot = codes "transfer-in-slot"
-name_of UnknownTarget = codes "unknown-target"
-name_of LinkRegister = codes "link-register"
-name_of Recursion = codes "recursion"
-name_of Irreducible = codes "irreducible"
-name_of NoBound = codes "no-bound"
-name_of NeverReturns = codes "never-returns"
-name_of TooManyUnits = codes "too-many-units"
-name_of BoundTooLarge = codes "bound-too-large"
-
--- The kind of a fault of the reader.
-abbrev pub kind_of : ElfKind → RefusalKind
-kind_of elf.Short = Short
-kind_of elf.NotElf = NotElf
-kind_of elf.NotThisKind = NotThisKind
-kind_of elf.BadTable = BadTable
-kind_of elf.BadSegment = BadSegment
-kind_of elf.BadSection = BadSection
-kind_of elf.BadRecord = BadRecord
-
--- The kind of a fault of the code.
-abbrev pub kind_of_code : CodeKind → RefusalKind
-kind_of_code code.WritableCode = WritableCode
-kind_of_code code.UnknownWord = UnknownWord
-kind_of_code code.TransferInSlot = TransferInSlot
-kind_of_code code.UnknownTarget = UnknownTarget
-kind_of_code code.LinkRegister = LinkRegister
-kind_of_code code.Recursion = Recursion
-kind_of_code code.Irreducible = Irreducible
-kind_of_code code.NoBound = NoBound
+name_of kind =
+    option_map_or (λ (known : NamedKind). known.name)
+    (find (λ (known : NamedKind). is_kind known.kind kind) named_kinds) []

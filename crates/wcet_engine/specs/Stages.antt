@@ -1,5 +1,5 @@
 -- What the stages of an analysis say of an image.
-use Rattle.std.specs.Prelude.{◌≡◌, ℕ, ◌<◌, ◌≤◌, ◌⊎◌, length}
+use Rattle.std.specs.Prelude.{◌≡◌, ℕ, ◌≤◌, ◌⊎◌, length}
 use Rattle.cache_config.specs.declared.profile.Profile.{Profile}
 use Rattle.call_contexts.specs.Programs.{HasNoReturn}
 use Rattle.call_contexts.specs.Sizes.{AreSizes, most_contexts, most_places}
@@ -11,31 +11,16 @@ use Rattle.ipet_program.specs.Programs.{IsCheckable, IsProgramOf, place_price}
 use Rattle.ipet_program.specs.declared.certificate.Certificate.{Certificate}
 use Rattle.ipet_program.specs.declared.program.Program.{Program}
 use Rattle.nest_solver.specs.Tables.{IsFew}
-use Rattle.net_model.specs.declared.unit.CodeKind.{CodeKind}
-use Rattle.net_model.specs.Faults.{rank as code_rank}
 use Rattle.net_model.specs.Functions.{CanReturn}
 use Rattle.net_model.specs.Net.{HasUnits, IsNet}
 use Rattle.wcet_engine.specs.declared.analysis.Refused.{Refused}
 use Rattle.wcet_engine.specs.declared.analysis.Refused.TheVariants.{Fault, Memory}
 use Rattle.wcet_engine.specs.declared.refusal.Refusal.{Refusal}
-use Rattle.wcet_engine.specs.declared.refusal.RefusalKind.{RefusalKind}
 use Rattle.wcet_engine.specs.declared.refusal.RefusalKind.TheVariants.{NeverReturns, TooManyUnits, BoundTooLarge}
 use Rattle.wcet_engine.specs.Certificates.{IsOneLeaf}
-use Rattle.wcet_engine.specs.ProgramFaults.{IsCodeFault, IsTooLarge, IsTooMany}
-use Rattle.wcet_engine.specs.Refusals.{at_number, kind_of_code, says_at}
+use Rattle.wcet_engine.specs.ProgramFaults.{IsTooLarge, IsTooMany}
+use Rattle.wcet_engine.specs.Refusals.{at_number}
 use Rattle.wcet_engine.specs.Runs.{HasPaths}
-
--- The first fault of the code and its loops.
-pub record IsCodeRefusal (image : Image) (entry : ℕ) (kind : RefusalKind) (place : ℕ) : Type 0 where
-  pub fault : CodeKind
-  pub same : kind ≡ kind_of_code fault
-  pub offends : IsCodeFault fault image entry place
-  pub first : (other : CodeKind) (spot : ℕ) → code_rank other < code_rank fault → IsCodeFault other image entry spot → ⊥
-  pub least : (lesser : ℕ) → lesser < place → IsCodeFault fault image entry lesser → ⊥
-
-abbrev pub TellsCode : Image → ℕ → Refused → Type 0
-TellsCode image entry (Fault refusal) = says_at (IsCodeRefusal image entry refusal.kind) refusal.spot
-TellsCode image entry Memory = Unit {0}
 
 -- Why a program without a fault of its code has no net: its entry function never returns, or else it has too many
 -- contexts or places.

@@ -1,12 +1,14 @@
 //! The analysis of a file's bytes.
 
 ghost use Rattle.std.specs.Prelude.{◌≡◌, ◌≤◌, length, IfOk, IfErr};
+ghost use Rattle.std.specs.Bool.{OnFalse, OnTrue};
 
 use crate::clash::clash_place;
 use crate::program::analyse_program;
-use crate::refusal::{Refusal, RefusalKind};
+use crate::refusal::{ConfigKind, Refusal, RefusalKind};
 use cache_config::{ConfigFault, Profile};
 use elf_mips::{ElfFault, Image, read_image};
+use flow_net::Net;
 use ipet_program::Certificate;
 use std::alloc::{AllocError, Global};
 use unit_graph::CodeFault;
@@ -14,6 +16,8 @@ use unit_graph::CodeFault;
 /// What the analysis of a file found.
 #[derive(Debug, Drop)]
 pub struct Analysis {
+    /// The net of the program, along whose arcs its runs go.
+    pub net: Net,
     /// The certificate of the cycles that the entry function takes at most.
     pub certificate: Certificate,
 }
@@ -45,7 +49,7 @@ impl From<ElfFault> for Refused {
 
     fn from(fault: ElfFault) -> Refused {
         match fault {
-            ElfFault::Bad { kind, offset } => Refused::at(RefusalKind::of_elf(kind), offset),
+            ElfFault::Bad { kind, offset } => Refused::at(RefusalKind::Elf(kind), offset),
             ElfFault::Memory => Refused::Memory,
         }
     }
@@ -58,13 +62,12 @@ impl From<ConfigFault> for Refused {
 
     fn from(fault: ConfigFault) -> Refused {
         match fault {
-            ConfigFault::Text => Refused::at(RefusalKind::ConfigText, 0),
-            ConfigFault::Key { path } => Refused::Fault(Refusal::at_key(
-                RefusalKind::ConfigKey,
-                path,
-            )),
+            ConfigFault::Text => Refused::at(RefusalKind::Config(ConfigKind::Text), 0),
+            ConfigFault::Key { path } => {
+                Refused::Fault(Refusal::at_key(RefusalKind::Config(ConfigKind::Key), path))
+            }
             ConfigFault::Range { path } => {
-                Refused::Fault(Refusal::at_key(RefusalKind::ConfigRange, path))
+                Refused::Fault(Refusal::at_key(RefusalKind::Config(ConfigKind::Range), path))
             }
             ConfigFault::Memory => Refused::Memory,
         }
@@ -78,7 +81,7 @@ impl From<CodeFault> for Refused {
 
     fn from(fault: CodeFault) -> Refused {
         match fault {
-            CodeFault::Bad { kind, address } => Refused::at(RefusalKind::of_code(kind), address),
+            CodeFault::Bad { kind, address } => Refused::at(RefusalKind::Code(kind), address),
             CodeFault::Memory => Refused::Memory,
         }
     }
@@ -94,7 +97,7 @@ impl From<AllocError> for Refused {
     }
 }
 
-ghost use Rattle.wcet_engine.specs.FileFaults.{IsAnalysisFor, TellsFaultOf, entry_of};
+ghost use Rattle.wcet_engine.specs.FileFaults.{IsAnalysisFor, IsUnbuilt, TellsFaultOf, entry_of};
 ghost use Rattle.wcet_engine.specs.Given.{file_limit};
 
 /// Where a program is entered: at the first symbol of the name that the profile has, or else at the image's
@@ -106,6 +109,14 @@ fn entry_of(image: &Image, profile: &Profile) -> Option<u32>
         None => Some(image.entry),
         Some(name) => image.symbol(name.as_slice()),
     }
+}
+
+/// Whether the profile asks for what isn't built yet: it has the key `cache`.
+fn is_unbuilt(profile: &Profile) -> bool
+    ensures unbuilt { OnTrue result (IsUnbuilt profile.now) }
+    ensures built { OnFalse result (IsUnbuilt profile.now → ⊥) }
+{
+    profile.unbuilt
 }
 
 /// Analyses the bytes of an ELF file under a profile.
@@ -123,7 +134,7 @@ pub fn analyse_bytes(alloc: Global, elf: &[u8], profile: &Profile) -> Result<Ana
     if let Some(place) = clash_place(&image, profile) {
         return Err(Refused::at(RefusalKind::RegionClash, place));
     }
-    if profile.unbuilt {
+    if is_unbuilt(profile) {
         return Err(Refused::at(RefusalKind::Unbuilt, 0));
     }
     analyse_program(alloc, &image, profile, entry)

@@ -15,5 +15,5 @@ mod top;
 mod words;
 
 pub use analysis::{Analysis, Refused, analyse_bytes};
-pub use refusal::{Refusal, RefusalKind, Spot};
+pub use refusal::{ConfigKind, Refusal, RefusalKind, Spot};
 pub use top::{Status, wcet_main};

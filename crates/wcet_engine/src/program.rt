@@ -1,8 +1,9 @@
 //! The analysis of the program at an entry of an image.
 
-ghost use Rattle.std.specs.Prelude.{◌≡◌, false, IfErr, IfOk};
+ghost use Rattle.std.specs.Prelude.{IfErr, IfOk};
 ghost use Rattle.call_contexts.specs.Programs.{IsProgram};
 ghost use Rattle.elf_mips.specs.declared.image.Image.{Image};
+ghost use Rattle.wcet_engine.specs.FileFaults.{IsUnbuilt};
 ghost use Rattle.wcet_engine.specs.ProgramFaults.{IsAnalysisOf, TellsFaultIn};
 ghost use Rattle.wcet_engine.specs.Stages.{IsNetOf, TellsNoNet};
 
@@ -42,7 +43,7 @@ pub fn analyse_program(
     profile: &Profile,
     entry: u32,
 ) -> Result<Analysis, Refused>
-    requires { profile.now.unbuilt ≡ false }
+    requires { IsUnbuilt profile.now → ⊥ }
     ensures analysed { IfOk result (IsAnalysisOf image.now profile.now entry) }
     ensures refused { IfErr result (TellsFaultIn image.now profile.now entry) }
 {
@@ -50,5 +51,5 @@ pub fn analyse_program(
     let nests = find_loops(alloc, &graphs, image)?;
     let net = net_of(alloc, entry, &graphs, &nests)?;
     let certificate = certify(alloc, image, profile, entry, &net)?;
-    Ok(Analysis { certificate })
+    Ok(Analysis { net, certificate })
 }

@@ -6,6 +6,7 @@ use crate::refusal::{RefusalKind, Spot};
 use cache_config::Profile;
 use std::alloc::Global;
 use std::test::Fail;
+use unit_graph::CodeKind;
 
 /// What the plain profile says of a file.
 fn plainly(alloc: Global, file: &[u8]) -> Result<Result<Analysis, Refused>, Fail> {
@@ -36,7 +37,7 @@ fn refuses_bytes(rt: HostRuntime) -> Result<(), Fail> {
         return Err("not refused".into());
     };
     // The slot of the return isn't in the segment.
-    assert_eq!(rt; refusal.kind, RefusalKind::UnknownWord);
+    assert_eq!(rt; refusal.kind, RefusalKind::Code(CodeKind::UnknownWord));
     let Spot::Number(place) = refusal.spot else {
         return Err("a key".into());
     };

@@ -1,8 +1,9 @@
 -- Each answer is the first fault of the file under the profile, or an analysis of a file without one.
-use Rattle.std.proofs.Common.{◌≡◌, Some, None, sym, ◌∙◌}
+use Rattle.std.proofs.Common.{◌≡◌, Some, None, sym, subst, ◌∙◌}
+use Rattle.std.specs.Bool.{OnFalse, OnTrue}
 use Rattle.std.proofs.lemmas.Result.{err_from_is_err_and}
 use Rattle.wcet_engine.specs.Clash.{IsClash}
-use Rattle.wcet_engine.specs.FileFaults.{entry_of}
+use Rattle.wcet_engine.specs.FileFaults.{IsUnbuilt, entry_of}
 use Rattle.wcet_engine.proofs.FileFaultLemmas.{IsReadAs, IsTaken, answers-analysed, answers-refused, first-clash, first-symbol, first-unbuilt, no-entry, tells-bad}
 use Rattle.wcet_engine.proofs.LeastLemmas.{finds-none}
 use Rattle.wcet_engine.proofs.analysis.analyse_bytes.Goals as goal
@@ -27,14 +28,19 @@ returns-in-Some-clash_place-clause-refused c =
     rw c.at-in-Some-clash_place.ensures
     (first-clash c.args.elf.now c.args.profile.now image c.in-Some.entry c.in-Some-clash_place.place is enters c.in-Some-clash_place.ensures)
 
-pub returns-then-profile-clause-refused : goal.returns-then-profile-clause-refused
-returns-then-profile-clause-refused c =
+pub returns-then-is_unbuilt-clause-refused : goal.returns-then-is_unbuilt-clause-refused
+returns-then-is_unbuilt-clause-refused c =
     let image = c.in_ok-image.image in
     let profile = c.args.profile.now in
     let is : IsReadAs c.args.elf.now image = record { clean = c.in_ok-image.ensures.sound; read = c.in_ok-image.ensures.image } in
     let enters : entry_of image profile ≡ Some c.in-Some.entry = sym c.entry_of.ensures ∙ c.in-Some.is in
     let apart = finds-none (IsClash image profile) c.clash_place.result c.in_default-clash_place.not-Some c.clash_place.ensures in
-    rw c.at-then-profile.ensures (first-unbuilt c.args.elf.now profile image c.in-Some.entry is enters apart c.if-profile.true)
+    rw c.at-then-is_unbuilt.ensures (first-unbuilt c.args.elf.now profile image c.in-Some.entry is enters apart
+    (subst (λ yes. OnTrue yes (IsUnbuilt profile)) c.if-is_unbuilt.true c.is_unbuilt.ensures.unbuilt))
+
+pub analyse_program-requires : goal.analyse_program-requires
+analyse_program-requires c =
+    subst (λ yes. OnFalse yes (IsUnbuilt c.args.profile.now → ⊥)) c.if-is_unbuilt.false c.is_unbuilt.ensures.built
 
 pub returns-clause-refused : goal.returns-clause-refused
 returns-clause-refused c =
@@ -44,7 +50,7 @@ returns-clause-refused c =
       is = record { clean = c.in_ok-image.ensures.sound; read = c.in_ok-image.ensures.image };
       enters = sym c.entry_of.ensures ∙ c.in-Some.is;
       apart = finds-none (IsClash image profile) c.clash_place.result c.in_default-clash_place.not-Some c.clash_place.ensures;
-      built = c.if-profile.false;
+      built = subst (λ yes. OnFalse yes (IsUnbuilt profile → ⊥)) c.if-is_unbuilt.false c.is_unbuilt.ensures.built;
     } in
     answers-refused c.args.elf.now profile image c.in-Some.entry c.analyse_program.result taken c.analyse_program.ensures.refused
 
@@ -56,6 +62,6 @@ returns-clause-analysed c =
       is = record { clean = c.in_ok-image.ensures.sound; read = c.in_ok-image.ensures.image };
       enters = sym c.entry_of.ensures ∙ c.in-Some.is;
       apart = finds-none (IsClash image profile) c.clash_place.result c.in_default-clash_place.not-Some c.clash_place.ensures;
-      built = c.if-profile.false;
+      built = subst (λ yes. OnFalse yes (IsUnbuilt profile → ⊥)) c.if-is_unbuilt.false c.is_unbuilt.ensures.built;
     } in
     answers-analysed c.args.elf.now profile image c.in-Some.entry c.analyse_program.result taken c.analyse_program.ensures.analysed

@@ -1,8 +1,8 @@
 -- Each answer is the program's first fault, or an analysis of a program without one.
 use Rattle.std.proofs.lemmas.Result.{err_from_is_err_and}
 use Rattle.call_contexts.specs.Programs.{IsProgram}
-use Rattle.wcet_engine.proofs.CodeKinds.{code-faultless, loop-tells, word-tells}
-use Rattle.wcet_engine.proofs.ProgramFaultLemmas.{tells-code, tells-large, tells-net}
+use Rattle.wcet_engine.proofs.CodeKinds.{code-faultless}
+use Rattle.wcet_engine.proofs.ProgramFaultLemmas.{tells-large, tells-loops, tells-net, tells-words}
 use Rattle.wcet_engine.proofs.StageLemmas.{can-return, is-analysed, not-many}
 use Rattle.wcet_engine.proofs.program.analyse_program.Goals as goal
 
@@ -10,15 +10,14 @@ pub returns-in_err-graphs-clause-refused : goal.returns-in_err-graphs-clause-ref
 returns-in_err-graphs-clause-refused c =
     let image = c.args.image.now in
     let p = err_from_is_err_and c.from_residual.result c.from_residual.ensures.1 in
-    rw (p.1, p.2) (tells-code image c.args.profile.now c.args.entry _ (word-tells image c.args.entry _ c.in_err-graphs.ensures.bad))
+    rw (p.1, p.2) (tells-words image c.args.profile.now c.args.entry _ c.in_err-graphs.ensures.bad)
 
 pub returns-in_err-nests-clause-refused : goal.returns-in_err-nests-clause-refused
 returns-in_err-nests-clause-refused c =
     let image = c.args.image.now in
     let p = err_from_is_err_and c.from_residual-in_err-nests.result c.from_residual-in_err-nests.ensures.1 in
-    rw (p.1, p.2) (tells-code image c.args.profile.now c.args.entry _
-    (loop-tells image c.args.entry _ c.in_ok-graphs.ensures.faultless
-    (c.in_err-nests.ensures.bad c.args.entry c.in_ok-graphs.ensures.graphs)))
+    rw (p.1, p.2) (tells-loops image c.args.profile.now c.args.entry _ c.in_ok-graphs.ensures.faultless
+    (c.in_err-nests.ensures.bad c.args.entry c.in_ok-graphs.ensures.graphs))
 
 pub net_of-requires : goal.net_of-requires
 net_of-requires c = (
