@@ -1,6 +1,6 @@
 -- A place costs what its unit costs.
 use Rattle.std.proofs.Common.{◌≡◌, ℕ, ◌+◌, ◌<◌, List, length, get_or, Some, sym, ◌∙◌, ap}
-use Rattle.cache_config.specs.Instructions.{Costs, costs_of}
+use Rattle.cache_config.specs.Instructions.{costs_of}
 use Rattle.cache_config.specs.declared.profile.Profile.{Profile}
 use Rattle.elf_mips.specs.declared.image.Image.{Image}
 use Rattle.flow_net.specs.Numbers.{item_at}
@@ -13,12 +13,10 @@ use Rattle.ipet_program.proofs.Numbered.{item-read}
 
 -- The place that a loop reads has the price of its number.
 pub price-read : (profile : Profile) (image : Image) (net : Net) (places : List Place) (index : ℕ) (d : Place)
-    (costs : Costs) (price : ℕ) → places ≡ net.places → index < length places → costs ≡ costs_of profile →
-    price ≡ content_cost costs (index + 1) (content_at image (get_or places index d).address) (get_or places index d).address →
+    (price : ℕ) → places ≡ net.places → index < length places →
+    price ≡ content_cost (costs_of profile) (index + 1) (content_at image (get_or places index d).address) (get_or places index d).address →
     price ≡ place_price profile image net (index + 1)
-price-read profile image net places index d costs price same within of_profile value =
+price-read profile image net places index d price same within value =
     let there : item_at (index + 1) net.places ≡ Some (get_or places index d) =
     item-read net.places places index d (sym same) within in
-    let place : Place = get_or places index d in
-    value ∙ ap (λ costs. content_cost costs (index + 1) (content_at image place.address) place.address) of_profile
-    ∙ ap (price_at profile image (index + 1)) (sym there)
+    value ∙ ap (price_at profile image (index + 1)) (sym there)

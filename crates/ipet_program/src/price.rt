@@ -3,48 +3,49 @@
 ghost use Rattle.std.specs.Prelude.{◌≡◌, ℕ, ◌*◌, ◌≤◌, true};
 ghost use Rattle.mips_decode.specs.Table.{IsValid};
 ghost use Rattle.net_model.specs.Units.{is_transfer};
+ghost use Rattle.cache_config.specs.Instructions.{costs_of};
 ghost use Rattle.cache_config.specs.Limits.{most_cycles};
 ghost use Rattle.code_units.specs.Ways.{IsStanding};
 ghost use Rattle.ipet_program.specs.Costs.{instr_cost, price_limit, touch_cost, unit_cost};
 
-use cache_config::Costs;
+use cache_config::Profile;
 use mips_decode::{AccessKind, Instr};
 use net_model::CodeUnit;
 
 /// The cycles of an instruction's load, at stage 1 of its chain, or store; 0 where it makes none.
-fn touch_price(costs: &Costs, instr: &Instr) -> u64
-    ensures value { result ≡ touch_cost costs.now instr.now }
+fn touch_price(profile: &Profile, instr: &Instr) -> u64
+    ensures value { result ≡ touch_cost (costs_of profile.now) instr.now }
     ensures small { result ≤ most_cycles }
     ensures transfer { is_transfer instr.now ≡ true → result ≡ 0 }
 {
     match *instr {
-        Instr::Load { .. } => costs.stage(AccessKind::Load, 1),
-        Instr::Store { .. } => costs.store(),
+        Instr::Load { .. } => profile.stage_latency(AccessKind::Load, 1),
+        Instr::Store { .. } => profile.store,
         _ => 0,
     }
 }
 
 /// The cycles of an instruction, with its fetch and its load or store.
-fn instr_price(costs: &Costs, fetch: AccessKind, instr: &Instr) -> u64
+fn instr_price(profile: &Profile, fetch: AccessKind, instr: &Instr) -> u64
     requires { IsValid instr.now }
-    ensures value { result ≡ instr_cost costs.now fetch instr.now }
+    ensures value { result ≡ instr_cost (costs_of profile.now) fetch instr.now }
     ensures some { 1 ≤ result }
     ensures small { result ≤ 3 * most_cycles }
     ensures transfer { is_transfer instr.now ≡ true → result ≤ 2 * most_cycles }
 {
-    costs.instruction(instr) + (costs.stage(fetch, 1) + touch_price(costs, instr))
+    profile.cycles.instruction(instr) + (profile.stage_latency(fetch, 1) + touch_price(profile, instr))
 }
 
 /// The cycles of a unit: of its instruction and of the one in its slot.
-pub fn unit_price(costs: &Costs, unit: &CodeUnit) -> u64
+pub fn unit_price(profile: &Profile, unit: &CodeUnit) -> u64
     requires { IsStanding unit.now }
-    ensures value { (number address : ℕ) → result ≡ unit_cost costs.now number unit.now address }
+    ensures value { (number address : ℕ) → result ≡ unit_cost (costs_of profile.now) number unit.now address }
     ensures some { 1 ≤ result }
     ensures small { result ≤ price_limit }
 {
-    let cycles = instr_price(costs, AccessKind::Fetch, &unit.instr);
+    let cycles = instr_price(profile, AccessKind::Fetch, &unit.instr);
     match unit.slot {
-        Some(slot) => cycles + instr_price(costs, AccessKind::Slot, &slot),
+        Some(slot) => cycles + instr_price(profile, AccessKind::Slot, &slot),
         None => cycles,
     }
 }

@@ -1,6 +1,7 @@
 //! What the places of a net cost.
 
 ghost use Rattle.std.specs.Prelude.{◌≡◌, ℕ, All, IfOk, length};
+ghost use Rattle.cache_config.specs.Instructions.{costs_of};
 ghost use Rattle.net_model.specs.Units.{content_at};
 ghost use Rattle.ipet_program.specs.Costs.{content_cost};
 ghost use Rattle.ipet_program.specs.Programs.{FitsImage, IsUnitAt, place_price};
@@ -8,7 +9,7 @@ ghost use Rattle.ipet_program.specs.Sums.{numbered};
 ghost use Rattle.ipet_program.specs.Tables.{IsPrice};
 
 use crate::price::unit_price;
-use cache_config::{Costs, Profile};
+use cache_config::Profile;
 use code_units::content_at;
 use elf_mips::Image;
 use flow_net::Net;
@@ -16,13 +17,13 @@ use net_model::Content;
 use std::alloc::{AllocError, Global};
 
 /// The cycles of the unit at an address where one stands.
-fn price_at(image: &Image, costs: &Costs, address: u32) -> u64
+fn price_at(image: &Image, profile: &Profile, address: u32) -> u64
     requires { IsUnitAt image.now address }
-    ensures value { (number : ℕ) → result ≡ content_cost costs.now number (content_at image.now address) address }
+    ensures value { (number : ℕ) → result ≡ content_cost (costs_of profile.now) number (content_at image.now address) address }
     ensures priced { IsPrice result }
 {
     match content_at(image, address) {
-        Content::Unit(unit) => unit_price(costs, &unit),
+        Content::Unit(unit) => unit_price(profile, &unit),
         Content::Fault { .. } => unreachable!(),
     }
 }
@@ -40,10 +41,9 @@ pub fn prices_of(
     ensures count { IfOk result (λ prices. length prices.items ≡ length net.now.places) }
     ensures priced { IfOk result (λ prices. All IsPrice prices.items) }
 {
-    let costs = Costs::of_profile(profile);
     let mut prices = Vec::new(alloc);
     for place in net.places.as_slice() {
-        prices.push(price_at(image, &costs, place.address))?;
+        prices.push(price_at(image, profile, place.address))?;
     }
     Ok(prices)
 }

@@ -1,8 +1,12 @@
 -- Units cost the same under profiles with the same costs.
-use Rattle.std.proofs.Common.{◌≡◌, ℕ, List, [], ◌∷◌, Option, Some, None, refl, ap, arith}
+use Rattle.std.proofs.Common.{◌≡◌, ℕ, List, [], ◌∷◌, ◌++◌, map, Option, Some, None, refl, ap, ap₂, arith}
 use Rattle.std.proofs.Math.Path.{fun_ext}
 use Rattle.cache_config.specs.declared.profile.Profile.{Profile}
 use Rattle.elf_mips.specs.declared.image.Image.{Image}
+use Rattle.lru_concrete.specs.declared.level.Level.{Level}
+use Rattle.lru_concrete.specs.declared.level.Side.{Side}
+use Rattle.lru_concrete.specs.declared.level.Side.TheVariants as side
+use Rattle.lru_concrete.specs.Chains.{chain}
 use Rattle.flow_net.specs.Numbers.{item_at}
 use Rattle.flow_net.specs.declared.net.Net.{Net}
 use Rattle.flow_net.specs.declared.net.Place.{Place}
@@ -10,7 +14,7 @@ use Rattle.mips_decode.specs.Columns.{class_of}
 use Rattle.mips_decode.specs.declared.columns.CostClass.{CostClass}
 use Rattle.mips_decode.specs.declared.instr.Instr.{Instr}
 use Rattle.mips_decode.specs.declared.instr.Instr.TheVariants.{Three, Shift, HiLo, MulDiv, Imm, Lui, Load, Store, Branch, Jump, JumpReg, JumpLink, Stop}
-use Rattle.cache_config.specs.Instructions.{costs_of, cycles_of, stages_of}
+use Rattle.cache_config.specs.Instructions.{costs_of, cycles_of, stages_of, stages_through}
 use Rattle.net_model.specs.declared.unit.Content.{Content}
 use Rattle.net_model.specs.declared.unit.Content.TheVariants.{Unit as Stands, Fault}
 use Rattle.net_model.specs.Units.{content_at}
@@ -23,10 +27,13 @@ use Rattle.mips_decode.specs.declared.step.AccessKind.TheVariants.{Fetch, Slot, 
 use Rattle.std.specs.Prelude.{slice_index_or}
 use Rattle.std.proofs.lemmas.List.Sums.{sum_by-cons}
 
--- Two profiles with the same costs: those of memory and of stores, and the cycles of each class.
+-- Two profiles with the same costs: those of memory, of stores and of the caches of each chain, and the cycles of each
+-- class.
 pub record HaveSameCosts (profile other : Profile) : Type 0 where
   pub memory : profile.memory ≡ other.memory
   pub store : profile.store ≡ other.store
+  pub levels : (side : Side) →
+      map (λ (l : Level). l.latency) (chain side profile.levels) ≡ map (λ (l : Level). l.latency) (chain side other.levels)
   pub classes : (class : CostClass) → cycles_of profile.cycles class ≡ cycles_of other.cycles class
 
 store-same : (profile other : Profile) (instr : Instr) → HaveSameCosts profile other →
@@ -55,11 +62,16 @@ slot-same : (profile other : Profile) (slot : Option Instr) → HaveSameCosts pr
 slot-same profile other None same = refl
 slot-same profile other (Some slot) same = own-same profile other slot same
 
+stages-through : (profile other : Profile) (s : Side) → HaveSameCosts profile other →
+    stages_through (costs_of profile) (Some s) ≡ stages_through (costs_of other) (Some s)
+stages-through profile other s same =
+    ap₂ (λ (latencies : List ℕ) (memory : ℕ). latencies ++ (memory ∷ [])) (same.levels s) same.memory
+
 stages-same : (profile other : Profile) (kind : AccessKind) → HaveSameCosts profile other →
     stages_of (costs_of profile) kind ≡ stages_of (costs_of other) kind
-stages-same profile other Fetch same = ap (λ (latency : ℕ). latency ∷ []) same.memory
-stages-same profile other Slot same = ap (λ (latency : ℕ). latency ∷ []) same.memory
-stages-same profile other Loading same = ap (λ (latency : ℕ). latency ∷ []) same.memory
+stages-same profile other Fetch same = stages-through profile other side.Fetch same
+stages-same profile other Slot same = stages-through profile other side.Fetch same
+stages-same profile other Loading same = stages-through profile other side.Load same
 stages-same profile other Storing same = refl
 
 first_stages-same : (profile other : Profile) (accesses : List Access) → HaveSameCosts profile other →

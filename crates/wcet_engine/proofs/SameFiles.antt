@@ -50,36 +50,12 @@ clash-same a b profile other place same regions clash = record {
   shared = subst (λ (rs : List Region). IsSharedBy (region_of clash.segment) rs place) regions clash.shared;
 }
 
--- Two profiles with the same costs, that give the same memory, name the same entry, and have the key `cache` both or neither.
+-- Two profiles with the same costs, that give the same memory, name the same entry, and have as many caches.
 pub record IsSameProfile (profile other : Profile) : Type 0 where
   pub costs : HaveSameCosts profile other
   pub regions : given_regions profile ≡ given_regions other
   pub entry : profile.entry ≡ other.entry
-  pub unbuilt : profile.unbuilt ≡ other.unbuilt
-
-cycles_of-each : (cycles : Cycles) (class : CostClass) → EachTakes 1 cycles → cycles_of cycles class ≡ 1
-cycles_of-each cycles cost.Alu each = each.alu
-cycles_of-each cycles cost.Shift each = each.shift
-cycles_of-each cycles cost.Mult each = each.mult
-cycles_of-each cycles cost.Div each = each.div
-cycles_of-each cycles cost.Move each = each.hilo
-cycles_of-each cycles cost.Load each = each.load
-cycles_of-each cycles cost.Store each = each.store
-cycles_of-each cycles cost.Branch each = each.branch
-cycles_of-each cycles cost.Jump each = each.jump
-cycles_of-each cycles cost.Stop each = each.stop
-
-plain-same : (profile other : Profile) → HasDefaults profile → HasDefaults other → IsSameProfile profile other
-plain-same profile other one two = record {
-  costs = record {
-    memory = one.memory ∙ sym two.memory;
-    store = one.store ∙ sym two.store;
-    classes = λ class. cycles_of-each profile.cycles class one.cycles ∙ sym (cycles_of-each other.cycles class two.cycles);
-  };
-  regions = rw (one.stack_top, one.stack_size, one.regions, two.stack_top, two.stack_size, two.regions) refl;
-  entry = one.entry ∙ sym two.entry;
-  unbuilt = one.unbuilt ∙ sym two.unbuilt;
-}
+  pub caches : length profile.levels ≡ length other.levels
 
 cycles-same : (read : Members) (cycles other : Cycles) (class : CostClass) → ReadsCosts read cycles → ReadsCosts read other →
     cycles_of cycles class ≡ cycles_of other class
@@ -115,16 +91,57 @@ areas-same : (read : Members) (profile other : Profile) → ReadsAs read profile
     map area_of profile.regions ≡ map area_of other.regions
 areas-same read profile other one two = areas-by profile.regions other.regions (one.regions ∙ sym two.regions)
 
+-- Caches of the same keys cost the same.
+record AreAlike (levels others : List Level) : Type 0 where
+  many : length levels ≡ length others
+  latencies : (side : Side) → map (λ (l : Level). l.latency) (chain side levels) ≡ map (λ (l : Level). l.latency) (chain side others)
+
+latency-onto : (served : Bool) (latency other : ℕ) (latencies others : List ℕ) → latency ≡ other → latencies ≡ others →
+    cond served (latency ∷ latencies) latencies ≡ cond served (other ∷ others) others
+latency-onto true latency other latencies others same rest = ap₂ (λ (n : ℕ) (ns : List ℕ). n ∷ ns) same rest
+latency-onto false latency other latencies others same rest = rest
+
+chain-latencies : (side : Side) (level : Level) (levels : List Level) → map (λ (l : Level). l.latency) (chain side (level ∷ levels))
+    ≡ cond (serves level.serves side) (level.latency ∷ map (λ (l : Level). l.latency) (chain side levels))
+      (map (λ (l : Level). l.latency) (chain side levels))
+chain-latencies side level levels = by_served (serves level.serves side)
+  where
+    by_served : (served : Bool) → map (λ (l : Level). l.latency) (cond served (level ∷ chain side levels) (chain side levels))
+        ≡ cond served (level.latency ∷ map (λ (l : Level). l.latency) (chain side levels)) (map (λ (l : Level). l.latency) (chain side levels))
+    by_served true = refl
+    by_served false = refl
+
+levels-by : (levels others : List Level) → map (λ (l : Level). Some (cache l)) levels ≡ map (λ (l : Level). Some (cache l)) others →
+    AreAlike levels others
+levels-by [] [] same = record { many = refl; latencies = λ side. refl }
+levels-by [] (other ∷ others) same = absurd cc
+levels-by (level ∷ levels) [] same = absurd cc
+levels-by (level ∷ levels) (other ∷ others) same =
+    let rest : map (λ (l : Level). Some (cache l)) levels ≡ map (λ (l : Level). Some (cache l)) others = cc in
+    let first : cache level ≡ cache other = cc in
+    let later = levels-by levels others rest in
+    record {
+      many = ap suc later.many;
+      latencies = λ side. chain-latencies side level levels
+          ∙ ap (λ (s : Serves). cond (serves s side) (level.latency ∷ map (λ (l : Level). l.latency) (chain side levels))
+            (map (λ (l : Level). l.latency) (chain side levels))) (ap (λ (c : CacheKeys). c.serves) first)
+          ∙ latency-onto (serves other.serves side) level.latency other.latency
+            (map (λ (l : Level). l.latency) (chain side levels)) (map (λ (l : Level). l.latency) (chain side others))
+            (ap (λ (c : CacheKeys). c.latency) first) (later.latencies side)
+          ∙ sym (chain-latencies side other others);
+    }
+
 read-same : (read : Members) (profile other : Profile) → ReadsAs read profile → ReadsAs read other → IsSameProfile profile other
-read-same read profile other one two = record {
+read-same read profile other one two = let levels = levels-by profile.levels other.levels (one.levels ∙ sym two.levels) in record {
   costs = record {
     memory = one.memory ∙ sym two.memory;
     store = one.store ∙ sym two.store;
+    levels = levels.latencies;
     classes = λ class. cycles-same (costs_of read) profile.cycles other.cycles class one.cycles two.cycles;
   };
   regions = rw (one.stack_top, one.stack_size, two.stack_top, two.stack_size, areas-same read profile other one two) refl;
   entry = one.entry ∙ sym two.entry;
-  unbuilt = one.unbuilt ∙ sym two.unbuilt;
+  caches = levels.many;
 }
 
 -- A text has one list of members.
@@ -133,7 +150,7 @@ same-members text one two a b = same_Some one two (sym a.1 ∙ b.1)
 
 pub same-profile : (config : Option (List ℕ)) (profile other : Profile) → GivesProfile config profile → GivesProfile config other →
     IsSameProfile profile other
-same-profile None profile other one two = plain-same profile other one two
+same-profile None profile other one two = read-same no_members profile other one two
 same-profile (Some text) profile other one two =
     read-same two.members profile other
     (subst (λ (members : Members). ReadsAs members profile) (same-members text one.members two.members one.means two.means) one.reads) two.reads

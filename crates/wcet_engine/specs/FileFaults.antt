@@ -39,9 +39,9 @@ pub record OfProgram (file : List ℕ) (profile : Profile) (Says : Image → ℕ
   pub enters : entry_of image profile ≡ Some entry
   pub says : Says image entry
 
--- What the profile asks for isn't built yet: it has the key `cache`.
+-- What the profile asks for isn't built yet: it has a cache.
 abbrev pub IsUnbuilt : Profile → Type 0
-IsUnbuilt profile = profile.unbuilt ≡ true
+IsUnbuilt profile = 0 < length profile.levels
 
 -- The layers of the faults of a file under a profile: those that its reader finds, a name of the entry that no symbol
 -- has, memory that clashes, a profile that isn't built yet, and those of the program.

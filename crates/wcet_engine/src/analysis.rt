@@ -116,7 +116,7 @@ fn is_unbuilt(profile: &Profile) -> bool
     ensures unbuilt { OnTrue result (IsUnbuilt profile.now) }
     ensures built { OnFalse result (IsUnbuilt profile.now → ⊥) }
 {
-    profile.unbuilt
+    !profile.levels.as_slice().is_empty()
 }
 
 /// Analyses the bytes of an ELF file under a profile.

@@ -16,8 +16,7 @@ loop-place-preserved c =
           c.loop-place.prices.items c.push.new.self.items c.price_at.result c.loop-place.invariant.known
           c.in_ok-push.ensures.items
           (price-read c.args.profile.now c.args.image.now c.args.net.now places.result.now index _
-          c.of_profile-costs.result c.price_at.result places.ensures c.loop-place-test.true
-          c.of_profile-costs.ensures (c.price_at.ensures.value (index + 1)));
+          c.price_at.result places.ensures c.loop-place-test.true (c.price_at.ensures.value (index + 1)));
       priced = All-same IsPrice _ _ c.in_ok-push.ensures.items
           (All-push IsPrice c.loop-place.prices.items c.price_at.result c.loop-place.invariant.priced
           c.price_at.ensures.priced);
