@@ -94,7 +94,8 @@ pub fn innermost_of(
     requires sources { IsWithin sources.now }
     requires count { length sources.now ≡ length reverse.now }
     requires ranks { length ranks.now ≡ length reverse.now }
-    ensures { IfOk result (λ innermost. AreInner reverse.now sources.now ranks.now (length reverse.now) innermost.items) }
+    ensures { IfOk result (λ innermost.
+        AreInner reverse.now sources.now ranks.now (length reverse.now) innermost.items) }
 {
     let mut marks = vec![in alloc; false; reverse.len()]?;
     let mut innermost = vec![in alloc; None; reverse.len()]?;

@@ -1,11 +1,10 @@
 //! Finding the loops of functions.
 
-ghost use Rattle.std.specs.Prelude.{◌≡◌, ◌⊎◌, [], ℕ, All, IfErr, IfOk, IfSome, Some};
+ghost use Rattle.std.specs.Prelude.{◌≡◌, ◌⊎◌, [], ℕ, IfErr, IfOk, IfSome, Some};
 ghost use Rattle.std.specs.BTreeMap.{get};
 ghost use Rattle.std.specs.Ordering.{nat_cmp};
-ghost use Rattle.elf_mips.specs.declared.image.Image.{Image};
 ghost use Rattle.net_model.specs.Faults.{HasNoFault};
-ghost use Rattle.unit_graph.specs.Graphs.{AreGraphs, IsGraph};
+ghost use Rattle.unit_graph.specs.Graphs.{AreGraphs, HasImage, HaveImage, OfImage, OfTheirImage};
 ghost use Rattle.unit_graph.specs.Firsts.{IsNoEarlier};
 
 use crate::listing::Listed;
@@ -37,9 +36,9 @@ fn answer_of(
     graph: &Graph,
     recorded: &BTreeMap<u64, u32>,
 ) -> Result<Answer, AllocError>
-    requires { (image : Image) × (entry : ℕ) × IsGraph image entry graph.now }
-    ensures { IfOk result (λ answer. (image : Image) (entry : ℕ) → IsGraph image entry graph.now →
-        AreRecorded image.marks (get nat_cmp recorded.now) → IsAnswer image entry answer) }
+    requires { HasImage graph.now }
+    ensures { IfOk result (λ answer. OfImage graph.now (λ image function.
+        AreRecorded image.marks (get nat_cmp recorded.now) → IsAnswer image function answer)) }
 {
     let plan = plan_of(alloc, graph)?;
     match find_in(alloc, graph, &plan, recorded)? {
@@ -74,10 +73,10 @@ fn nests_in(
     recorded: &BTreeMap<u64, u32>,
     nests: &mut List<List<Loop>>,
 ) -> Result<Option<Offence>, AllocError>
-    requires graphs { (image : Image) × All (λ g. IsGraph image g.entry g) graphs.now }
+    requires graphs { HaveImage graphs.now }
     requires empty { nests.old ≡ [] }
-    ensures { IfOk result (λ first. (image : Image) → All (λ g. IsGraph image g.entry g) graphs.now →
-        AreRecorded image.marks (get nat_cmp recorded.now) → IsFoundIn image graphs.now nests.new first) }
+    ensures { IfOk result (λ first. OfTheirImage graphs.now (λ image.
+        AreRecorded image.marks (get nat_cmp recorded.now) → IsFoundIn image graphs.now nests.new first)) }
 {
     let mut first = None;
     for graph in graphs {
@@ -103,7 +102,8 @@ fn nests_in(
 pub fn find_loops(alloc: Global, graphs: &Graphs, image: &Image) -> Result<Nests, CodeFault>
     requires graphs { (entry : ℕ) × AreGraphs image.now entry graphs.now × HasNoFault image.now entry }
     ensures nests { IfOk result (AreNests image.now graphs.now) }
-    ensures bad { IfErr result (λ fault. (entry : ℕ) → AreGraphs image.now entry graphs.now → TellsFault image.now entry fault) }
+    ensures bad { IfErr result (λ fault. (entry : ℕ) → AreGraphs image.now entry graphs.now →
+        TellsFault image.now entry fault) }
 {
     let recorded = recorded_bounds(alloc, image.marks.as_slice())?;
     let mut nests = List::new(alloc);

@@ -1,10 +1,9 @@
 //! The units of a function by their positions, and what is found of its loops.
 
-ghost use Rattle.std.specs.Prelude.{◌≡◌, ℕ, true, IfOk};
+ghost use Rattle.std.specs.Prelude.{◌≡◌, true, IfOk};
 ghost use Rattle.std.specs.BTreeMap.{get};
 ghost use Rattle.std.specs.Ordering.{nat_cmp};
-ghost use Rattle.elf_mips.specs.declared.image.Image.{Image};
-ghost use Rattle.unit_graph.specs.Graphs.{IsGraph};
+ghost use Rattle.unit_graph.specs.Graphs.{HasImage};
 
 use crate::bodies::innermost_of;
 use crate::bounds::bounds_of;
@@ -49,7 +48,7 @@ ghost use Rattle.step_table.specs.Table.{IsWithin};
 
 /// The plan of a graph, in time in proportion to its arcs but for a search of the addresses for each.
 pub fn plan_of(alloc: Global, graph: &Graph) -> Result<Plan, AllocError>
-    requires { (image : Image) × (entry : ℕ) × IsGraph image entry graph.now }
+    requires { HasImage graph.now }
     ensures { IfOk result (IsPlan graph.now) }
 {
     let units = graph.units.as_slice();

@@ -62,8 +62,9 @@ fn go_on(
     requires step { IsStep table.now last next }
     requires within { next < length table.now }
     requires new { number_of numbers.old next ≡ 0 }
-    ensures walk { OnOk result ((entry count : ℕ) → IsWalk table.now entry numbers.old count (trail.old.items ++ last ∷ [])
-        → IsWalk table.now entry numbers.new count trail.new.items) }
+    ensures walk { OnOk result ((entry count : ℕ) →
+        IsWalk table.now entry numbers.old count (trail.old.items ++ last ∷ []) →
+        IsWalk table.now entry numbers.new count trail.new.items) }
     ensures longer { OnOk result (length trail.new.items ≡ length trail.old.items + 2) }
     ensures kept { OnOk result (KeepsNumbers numbers.old numbers.new) }
 {
