@@ -30,3 +30,7 @@ are-empty (level ∷ levels) = (refl, are-empty levels)
 pub held-empty : (levels : List Level) → held_of levels (map no_blocks levels) ≡ map empty_of levels
 held-empty [] = refl
 held-empty (level ∷ levels) = ap (λ (hs : List Held). empty_of level ∷ hs) (held-empty levels)
+
+pub levels-empty : (levels : List Level) → levels_of (map empty_of levels) ≡ levels
+levels-empty [] = refl
+levels-empty (level ∷ levels) = ap (λ (ls : List Level). level ∷ ls) (levels-empty levels)

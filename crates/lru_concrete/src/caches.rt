@@ -88,7 +88,8 @@ impl Caches {
     pub fn empty(alloc: Global, levels: &[Level], memory: u64) -> Result<Caches, AllocError>
         requires few { length levels.now ≤ most_levels }
         requires memory { memory ≤ most_latency }
-        ensures { IfOk result (λ c. c ≡ record { caches = map empty_of levels.now; memory = memory }) }
+        ensures empty { IfOk result (λ c. c ≡ record { caches = map empty_of levels.now; memory = memory }) }
+        ensures levels { IfOk result (λ c. levels_of c.caches ≡ levels.now) }
     {
         let mut caches = Vec::new(alloc);
         for level in levels {
@@ -105,7 +106,8 @@ impl Caches {
 
     /// The levels of the caches, in their order.
     pub fn levels(&self) -> &[Level]
-        ensures { result.now ≡ levels_of self.now.caches }
+        ensures levels { result.now ≡ levels_of self.now.caches }
+        ensures few { length result.now ≤ most_levels }
     {
         &self.levels
     }

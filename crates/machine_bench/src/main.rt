@@ -1,12 +1,14 @@
-//! Runs a loop of arithmetic units and loads on the machine, for as many units as the input says, and prints
-//! the cycles: `bench/machine.sh` times it.
+//! Runs a loop of arithmetic units and loads on the machine, for as many units as a line of the input says, and prints
+//! the cycles: `bench/machine.sh` times it. A line that begins with `caches` runs it with two levels of caches for
+//! fetches and one for loads, the others without caches.
 #![tactic(auto)]
 
 ghost use Rattle.std.specs.Prelude.{◌≡◌, ◌<◌, ◌≤◌, IfOk, length};
 
 use anyhow::{Result, bail};
-use cache_config::Profile;
+use cache_config::{Profile, read_profile};
 use elf_mips::read_image;
+use lru_concrete::Caches;
 use mips_machine::{Machine, Outcome, Regs, has_clash};
 use std::alloc::{AllocError, Global};
 use std::io::Stdin;
@@ -52,12 +54,24 @@ const FILE: [u32; 26] = [
     0x256B_0003,
 ];
 
+/// Caches of the sizes that small controllers have.
+const CACHES: &str = "\
+    [[cache]]\nserves = 'fetch'\nsets = 16\nways = 2\nline = 16\nlatency = 1\n\
+    [[cache]]\nserves = 'load'\nsets = 8\nways = 2\nline = 16\nlatency = 1\n\
+    [[cache]]\nserves = 'fetch'\nsets = 64\nways = 4\nline = 32\nlatency = 6\n";
+
 fn main(rt: HostRuntime) -> Result<()> {
     for line in rt.lines(rt.alloc()) {
-        let Ok(units) = line?.as_str().trim().parse::<u64>() else {
-            bail!("the input is a number of units");
+        let line = line?;
+        let text = line.as_str().trim();
+        let (profile, count) = match text.strip_prefix("caches ") {
+            Some(count) => (cached_profile(rt.alloc())?, count),
+            None => (Profile::plain(rt.alloc()), text),
         };
-        let mut machine = loop_machine(rt.alloc())?;
+        let Ok(units) = count.parse::<u64>() else {
+            bail!("a line is a number of units, behind the word `caches` or alone");
+        };
+        let mut machine = loop_machine(rt.alloc(), &profile)?;
         let done = run(&mut machine, units);
         let cycles = machine.cycles();
         println!(rt; "units {done} cycles {cycles}")?;
@@ -65,14 +79,21 @@ fn main(rt: HostRuntime) -> Result<()> {
     Ok(())
 }
 
-/// The machine before the loop, with zero registers and the plain profile.
-fn loop_machine(alloc: Global) -> Result<Machine> {
+/// The profile with caches: two levels for fetches, and one for loads.
+fn cached_profile(alloc: Global) -> Result<Profile> {
+    let Ok(profile) = read_profile(alloc, CACHES.as_bytes()) else {
+        bail!("the profile isn't read");
+    };
+    Ok(profile)
+}
+
+/// The machine before the loop, with zero registers and caches that hold nothing.
+fn loop_machine(alloc: Global, profile: &Profile) -> Result<Machine> {
     let file = file_bytes(alloc)?;
     let Ok(image) = read_image(alloc, &file) else {
         bail!("the loop's file isn't read");
     };
-    let profile = Profile::plain(alloc);
-    if has_clash(&image, &profile) {
+    if has_clash(&image, profile) {
         bail!("the loop lies in the stack");
     }
     let regs = Regs {
@@ -80,7 +101,8 @@ fn loop_machine(alloc: Global) -> Result<Machine> {
         hi: 0,
         lo: 0,
     };
-    Ok(Machine::start(alloc, &image, &profile, ENTRY, &regs, &[])?)
+    let caches = Caches::empty(alloc, profile.levels.as_slice(), profile.memory)?;
+    Ok(Machine::start(alloc, &image, profile, ENTRY, &regs, &[], caches)?)
 }
 
 /// The bytes of the loop's file.

@@ -84,6 +84,13 @@ impl TalliedCaches {
         Ok(TalliedCaches { caches, tallies })
     }
 
+    /// How many caches there are.
+    pub fn count(&self) -> u32
+        ensures { result ≡ length self.now.held }
+    {
+        self.caches.levels().len() as u32
+    }
+
     /// The tally of a cache, counted from 0.
     pub fn tally(&self, cache: u32) -> Tally
         requires { cache < length self.now.held }

@@ -1,6 +1,8 @@
 //! The machine: it runs a program's units one after the other and counts their cycles.
 #![tactic(auto)]
 
+#[cfg(test)]
+mod cache_tests;
 mod caches;
 mod clash;
 mod cost;

@@ -239,6 +239,13 @@ impl Machine {
         self.last
     }
 
+    /// How many caches the profile has.
+    pub fn caches(&self) -> u32
+        ensures { result ≡ length self.now.caches.held }
+    {
+        self.caches.count()
+    }
+
     /// How often accesses since the start visited a cache of the profile, counted from 0, and found their block there,
     /// and how often they visited it and didn't.
     pub fn tally(&self, cache: u32) -> Tally

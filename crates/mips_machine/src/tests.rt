@@ -3,6 +3,7 @@
 use crate::{Fill, Machine, Outcome, Regs, Touched, TrapKind, are_fillable, has_clash};
 use cache_config::Profile;
 use elf_mips::{Image, read_image};
+use lru_concrete::Caches;
 use mips_decode::Reg;
 use std::alloc::{AllocError, Global};
 use std::test::Fail;
@@ -68,12 +69,21 @@ fn fill_of(alloc: Global, address: u32, bytes: &[u8]) -> Result<Fill, AllocError
 
 /// The machine before the first of the words, with zero registers, the plain profile and these fills.
 fn machine_with(alloc: Global, words: &[u32], fills: &[Fill]) -> Result<Machine, Fail> {
+    machine_under(alloc, words, &Profile::plain(alloc), fills)
+}
+
+/// The same under a profile, whose caches hold nothing yet.
+pub(crate) fn machine_under(
+    alloc: Global,
+    words: &[u32],
+    profile: &Profile,
+    fills: &[Fill],
+) -> Result<Machine, Fail> {
     let image = image_of(alloc, words)?;
-    let profile = Profile::plain(alloc);
-    if has_clash(&image, &profile) {
+    if has_clash(&image, profile) {
         return Err("a clash".into());
     }
-    if !are_fillable(&image, &profile, fills) {
+    if !are_fillable(&image, profile, fills) {
         return Err("a fill without its place".into());
     }
     let zero = Regs {
@@ -81,7 +91,8 @@ fn machine_with(alloc: Global, words: &[u32], fills: &[Fill]) -> Result<Machine,
         hi: 0,
         lo: 0,
     };
-    Ok(Machine::start(alloc, &image, &profile, ENTRY, &zero, fills)?)
+    let caches = Caches::empty(alloc, profile.levels.as_slice(), profile.memory)?;
+    Ok(Machine::start(alloc, &image, profile, ENTRY, &zero, fills, caches)?)
 }
 
 /// The same with nothing put into memory.
@@ -90,7 +101,7 @@ fn machine_of(alloc: Global, words: &[u32]) -> Result<Machine, Fail> {
 }
 
 /// Does units until the entry returns, a unit traps, or so many are done.
-fn run_until(machine: &mut Machine, units: u64) -> Outcome {
+pub(crate) fn run_until(machine: &mut Machine, units: u64) -> Outcome {
     for _ in 0..units {
         if machine.cycles() >= 1 << 62 {
             return Outcome::Going;

@@ -96,7 +96,7 @@ pub record IsReadAs (file : List ℕ) (image : Image) : Type 0 where
 
 -- One profile has the same costs as itself.
 costs-alike : (profile : Profile) → HaveSameCosts profile profile
-costs-alike profile = record { memory = refl; store = refl; classes = λ class. refl }
+costs-alike profile = record { memory = refl; store = refl; levels = λ side. refl; classes = λ class. refl }
 
 -- What is said of the file's image is said of this one, and so is what is said of its program.
 clash-in : (file : List ℕ) (profile : Profile) (image : Image) (place : ℕ) → IsReadAs file image →
@@ -274,7 +274,7 @@ file-same file profile other kind place same (inr (inr (inl fault))) =
     })))
 file-same file profile other kind place same (inr (inr (inr (inl fault)))) = inr (inr (inr (inl (record {
   same = fault.same;
-  offends = (fault.offends.0, sym same.unbuilt ∙ fault.offends.1);
+  offends = (fault.offends.0, subst (λ (n : ℕ). 0 < n) same.caches fault.offends.1);
 }))))
 file-same file profile other kind place same (inr (inr (inr (inr (inl of))))) = inr (inr (inr (inr (inl (record {
   image = of.image;

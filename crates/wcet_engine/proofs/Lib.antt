@@ -12,6 +12,7 @@ pub mod SameFiles
 pub mod SameImage
 pub mod StageLemmas
 pub mod UnitCosts
+pub mod Uncached
 pub mod Told
 pub mod Solved
 pub mod Certified

@@ -30,8 +30,8 @@ use Rattle.mips_decode.specs.State.{State, code_at, return_address}
 use Rattle.mips_decode.specs.Step.{Returned, Went}
 use Rattle.mips_decode.specs.Units.{ReturnsToCallers, RunUnit, units_of, visits}
 use Rattle.mips_machine.specs.Image.{regions_of}
-use Rattle.mips_machine.specs.Machine.{IsMachineStart, Machine, cost}
-use Rattle.mips_machine.specs.Run.{last_machine, run_cost, step_cost, unit_cycles, values_of}
+use Rattle.mips_machine.specs.Machine.{IsMachineStart, Machine}
+use Rattle.mips_machine.specs.Run.{last_machine, run_cost, values_of}
 use Rattle.mips_machine.proofs.CodeLemmas.{code_at-regions_of, code_at-start}
 use Rattle.mips_machine.proofs.RunLemmas.{RunsAs, runs_as}
 use Rattle.net_model.specs.declared.unit.Content.{Content}
@@ -44,7 +44,8 @@ use Rattle.net_model.proofs.RunPaths.{IsDoneAt, IsWholeAlong, whole-along}
 use Rattle.wcet_engine.specs.Runs.{CountsRuns, IsCounted}
 use Rattle.wcet_engine.specs.Headline.{Bounds, units_along}
 use Rattle.wcet_engine.specs.Stages.{IsNetOf}
-use Rattle.wcet_engine.proofs.UnitCosts.{unit-cycles}
+use Rattle.wcet_engine.proofs.Uncached.{step_cycles, uncached-run, unit_cycles}
+use Rattle.wcet_engine.proofs.UnitCosts.{uncached_cost, unit-cycles}
 
 -- The executable words of a start are the image's.
 code-of_start : (image : Image) (profile : Profile) (entry : ℕ) (m : Machine) → All IsFilled image.segments →
@@ -86,11 +87,12 @@ zip-sums R f g same (a ∷ items) (b ∷ others) zip =
     omega (arith, first, rest, left, right)
 
 step-cycles : (costs : Costs) (image : Image) (net : Net) (did : RunUnit) (number : ℕ) (done : IsDoneAt image net did number) →
-    unit_cycles costs did ≡ cost costs did.at.address done.done
+    unit_cycles costs did ≡ uncached_cost costs did.at.address done.done
 step-cycles costs image net did number done = by_step done.step where
-  by_step : ((did.step ≡ Went done.done done.next) ⊎ (did.step ≡ Returned done.done done.next)) → unit_cycles costs did ≡ cost costs did.at.address done.done
-  by_step (inl went) = ap (step_cost costs did.at.address) went
-  by_step (inr ended) = ap (step_cost costs did.at.address) ended
+  by_step : ((did.step ≡ Went done.done done.next) ⊎ (did.step ≡ Returned done.done done.next)) →
+      unit_cycles costs did ≡ uncached_cost costs did.at.address done.done
+  by_step (inl went) = ap (step_cycles costs did.at.address) went
+  by_step (inr ended) = ap (step_cycles costs did.at.address) ended
 
 done-price : (profile : Profile) (image : Image) (net : Net) (did : RunUnit) (number : ℕ) → IsDoneAt image net did number →
     unit_cycles (costs_of profile) did ≡ place_price profile image net number
@@ -135,7 +137,7 @@ run-counted : (profile : Profile) (image : Image) (entry : ℕ) (net : Net) (pro
     KeepsRecords image entry (units_of (image_code image.segments) s states) → (last_state s states).pc ≡ return_address →
     IsWholeAlong image entry net s states →
     IsCounted net program entry (units_of (image_code image.segments) s states)
-    (run_cost (costs_of profile) (units_of (image_code image.segments) s states))
+    (sum_by (unit_cycles (costs_of profile)) (units_of (image_code image.segments) s states))
 run-counted profile image entry net program s states is scopes of_net begins records place whole =
     let did : List RunUnit = units_of (image_code image.segments) s states in
     let price : ℕ → ℕ = place_price profile image net in
@@ -160,7 +162,7 @@ run-counted profile image entry net program s states is scopes of_net begins rec
     let end = sum_by-cons price 0 [] in
     let outside = of_net.outside in
     let units = zip-sums (IsDoneAt image net) (unit_cycles (costs_of profile)) price (done-price profile image net) did rest.places rest.done in
-    let cycles : path_cost price net.arcs (arcs_of moments) ≡ run_cost (costs_of profile) did =
+    let cycles : path_cost price net.arcs (arcs_of moments) ≡ sum_by (unit_cycles (costs_of profile)) did =
     omega (arith, along, places, both, end, outside, units) in
     record {
       moments = moments;
@@ -181,8 +183,9 @@ run-counted profile image entry net program s states is scopes of_net begins rec
 
 -- The program of the net counts each run that the headline speaks of and whose entry has returned.
 pub counts-runs : (image : Image) (profile : Profile) (entry : ℕ) (net : Net) (program : Program) →
-    IsNetOf image entry net → IsProgramOf net (place_price profile image net) program → CountsRuns image profile entry net program
-counts-runs image profile entry net program is of_net m start machines spoken returned =
+    profile.levels ≡ [] → IsNetOf image entry net → IsProgramOf net (place_price profile image net) program →
+    CountsRuns image profile entry net program
+counts-runs image profile entry net program uncached is of_net m start machines spoken returned =
     let code : ℕ → Option ℕ = image_code image.segments in
     let states : List State = values_of machines in
     let same : code_at m.values.regions ≡ code = code-of_start image profile entry m image.filled start in
@@ -197,13 +200,14 @@ counts-runs image profile entry net program is of_net m start machines spoken re
       targets = records.targets;
       callers = subst ReturnsToCallers units spoken.callers;
     } in
-    let counted : IsCounted net program entry did (run_cost (costs_of profile) did) =
+    let counted : IsCounted net program entry did (sum_by (unit_cycles (costs_of profile)) did) =
     run-counted profile image entry net program m.values states is.is_net is.nested.scopes of_net start.values.pc records returned.place
     (whole-along image entry net is.is_net is.units m.values states kept) in
-    let costs : run_cost m.costs did ≡ run_cost (costs_of profile) did = ap (λ (c : Costs). run_cost c did) start.costs in
+    let costs : run_cost m.classes m.store m.caches did ≡ sum_by (unit_cycles (costs_of profile)) did =
+    uncached-run image profile entry m start uncached did in
     let cycles = runs.cycles in
     let none = start.cycles in
-    let whole : run_cost (costs_of profile) did ≡ (last_machine m machines).cycles = omega (arith, costs, cycles, none) in
+    let whole : sum_by (unit_cycles (costs_of profile)) did ≡ (last_machine m machines).cycles = omega (arith, costs, cycles, none) in
     subst (λ (units : List RunUnit). IsCounted net program entry units (last_machine m machines).cycles) (sym units)
     (subst (IsCounted net program entry did) whole counted)
 

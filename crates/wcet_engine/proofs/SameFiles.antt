@@ -1,8 +1,7 @@
 -- A file has one image, and a text gives one profile, as far as faults go.
-use Rattle.std.proofs.Common.{◌≡◌, ℕ, List, [], ◌∷◌, Contains, Option, Some, None, refl, sym, ap, subst, ◌∙◌}
-use Rattle.std.specs.Prelude.{map}
+use Rattle.std.proofs.Common.{◌≡◌, ℕ, suc, Bool, true, false, cond, List, [], ◌∷◌, length, map, Contains, Option, Some, None, refl, sym, ap, ap₂, subst, ◌∙◌}
 use Rattle.std.proofs.lemmas.Option.{same_Some}
-use Rattle.cache_config.specs.Costs.{EachTakes}
+use Rattle.cache_config.specs.Caches.{Cache, cache}
 use Rattle.cache_config.specs.Defaults.{HasDefaults}
 use Rattle.cache_config.specs.Instructions.{cycles_of}
 use Rattle.cache_config.specs.Profiles.{Means, ReadsAs, ReadsCosts, span}
@@ -10,6 +9,10 @@ use Rattle.cache_config.specs.Values.{costs_of}
 use Rattle.cache_config.specs.declared.profile.Cycles.{Cycles}
 use Rattle.cache_config.specs.declared.profile.Profile.{Profile}
 use Rattle.cache_config.specs.declared.profile.Region.{Region as Area}
+use Rattle.lru_concrete.specs.declared.level.Level.{Level}
+use Rattle.lru_concrete.specs.declared.level.Serves.{Serves}
+use Rattle.lru_concrete.specs.declared.level.Side.{Side}
+use Rattle.lru_concrete.specs.Chains.{chain, serves}
 use Rattle.elf_mips.specs.Image.{IsImage}
 use Rattle.elf_mips.specs.Symbols.{symbol_at}
 use Rattle.elf_mips.specs.declared.image.Image.{Image}
@@ -19,7 +22,7 @@ use Rattle.mips_decode.specs.State.{Region}
 use Rattle.mips_decode.specs.declared.columns.CostClass.{CostClass}
 use Rattle.mips_decode.specs.declared.columns.CostClass.TheVariants as cost
 use Rattle.mips_machine.specs.Image.{area_of, region_of}
-use Rattle.toml.specs.Data.{Members}
+use Rattle.toml.specs.Data.{Members, no_members}
 use Rattle.wcet_engine.specs.Clash.{IsClash, IsSharedBy, given_regions}
 use Rattle.wcet_engine.specs.Faults.{GivesProfile}
 use Rattle.wcet_engine.specs.FileFaults.{entry_by}
@@ -124,10 +127,10 @@ levels-by (level ∷ levels) (other ∷ others) same =
       many = ap suc later.many;
       latencies = λ side. chain-latencies side level levels
           ∙ ap (λ (s : Serves). cond (serves s side) (level.latency ∷ map (λ (l : Level). l.latency) (chain side levels))
-            (map (λ (l : Level). l.latency) (chain side levels))) (ap (λ (c : CacheKeys). c.serves) first)
+            (map (λ (l : Level). l.latency) (chain side levels))) (ap (λ (c : Cache). c.serves) first)
           ∙ latency-onto (serves other.serves side) level.latency other.latency
             (map (λ (l : Level). l.latency) (chain side levels)) (map (λ (l : Level). l.latency) (chain side others))
-            (ap (λ (c : CacheKeys). c.latency) first) (later.latencies side)
+            (ap (λ (c : Cache). c.latency) first) (later.latencies side)
           ∙ sym (chain-latencies side other others);
     }
 

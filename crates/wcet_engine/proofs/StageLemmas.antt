@@ -1,5 +1,5 @@
 -- The analysis of a program without a fault.
-use Rattle.std.proofs.Common.{◌≡◌, ℕ, ◌^◌, min, refl, subst, arith}
+use Rattle.std.proofs.Common.{◌≡◌, ℕ, ◌^◌, ◌<◌, List, [], ◌∷◌, length, min, refl, subst, arith}
 use Rattle.cache_config.specs.declared.profile.Profile.{Profile}
 use Rattle.call_contexts.specs.Programs.{HasNoReturn, HasTooMany, IsProgram}
 use Rattle.call_contexts.proofs.NetOnce.{net-once}
@@ -9,7 +9,9 @@ use Rattle.flow_net.specs.declared.net.Net.{Net}
 use Rattle.ipet_program.specs.declared.certificate.Certificate.{Certificate}
 use Rattle.ipet_program.proofs.CertificateLaw.{certificate-bound}
 use Rattle.loop_nest.specs.declared.nest.Nests.{Nests}
+use Rattle.lru_concrete.specs.declared.level.Level.{Level}
 use Rattle.unit_graph.specs.declared.graph.Graphs.{Graphs}
+use Rattle.wcet_engine.specs.FileFaults.{IsUnbuilt}
 use Rattle.wcet_engine.specs.ProgramFaults.{IsAnalysisOf, IsLargeNet, IsTooLarge, IsTooMany}
 use Rattle.wcet_engine.specs.Stages.{Certifies, IsNetOf}
 use Rattle.wcet_engine.proofs.CodeKinds.{code-faultless}
@@ -50,13 +52,17 @@ fitting image profile entry net certificate is certifies large =
     let low = program.low in
     omega (arith, above, low)
 
+without-caches : (levels : List Level) → (0 < length levels → ⊥) → levels ≡ []
+without-caches [] built = refl
+without-caches (level ∷ levels) built = absurd (built (omega arith))
+
 -- A program without a fault is analysed.
 pub is-analysed : (image : Image) (profile : Profile) (entry : ℕ) (graphs : Graphs) (nests : Nests) (net : Net) (certificate : Certificate) →
-    IsProgram image entry graphs nests → IsNetOf image entry net → Certifies image profile net certificate →
+    (IsUnbuilt profile → ⊥) → IsProgram image entry graphs nests → IsNetOf image entry net → Certifies image profile net certificate →
     IsAnalysisOf image profile entry (record { net = net; certificate = certificate })
-is-analysed image profile entry graphs nests net certificate program is certifies =
+is-analysed image profile entry graphs nests net certificate built program is certifies =
     let greatest = certificate-bound certifies.program certificate certifies.checkable certifies.valid in
-    let counted = counts-runs image profile entry net certifies.program is certifies.is in
+    let counted = counts-runs image profile entry net certifies.program (without-caches profile.levels built) is certifies.is in
     record {
       faultless =
           free-program image profile entry (code-faultless image entry graphs nests program) (can-return image entry net is)

@@ -13,7 +13,7 @@ use Rattle.mips_decode.specs.declared.step.AccessKind.TheVariants as kind
 use Rattle.mips_decode.specs.declared.step.Touched.{Touched}
 use Rattle.mips_decode.specs.Step.{Done}
 use Rattle.cache_config.specs.Instructions.{Costs, class_cost, stage_latency}
-use Rattle.mips_machine.specs.Machine.{access_costs, cost, own_cost as done_cost, store_cost}
+use Rattle.mips_machine.specs.Machine.{own_cost as done_cost, store_cost}
 use Rattle.net_model.specs.Accesses.{unit_accesses}
 use Rattle.net_model.specs.declared.unit.CodeUnit.{CodeUnit}
 use Rattle.net_model.specs.Units.{is_transfer}
@@ -49,7 +49,7 @@ store-by costs true = refl
 store-by costs false = refl
 
 store-stored : (costs : Costs) (access : Option Touched) →
-    store_cost costs access ≡ stored costs (option_map (λ (a : Touched). a.store) access)
+    store_cost costs.store access ≡ stored costs (option_map (λ (a : Touched). a.store) access)
 store-stored costs None = refl
 store-stored costs (Some a) = store-by costs a.store
 
@@ -86,21 +86,30 @@ own-parts code costs address instr (Some slot) has =
 own-done : (code : ℕ → Option ℕ) (costs : Costs) (address : ℕ) (unit : CodeUnit) (done : Done) → HasSlot code address unit.instr unit.slot →
     done.instructions ≡ unit.instr ∷ slot_list unit.slot →
     option_map (λ (a : Touched). a.store) done.access ≡ last_touch unit.instr unit.slot →
-    done_cost costs done.instructions done.access ≡ own_cost costs unit.instr + slot_cost costs unit.slot
+    done_cost costs.cycles costs.store done.instructions done.access ≡ own_cost costs unit.instr + slot_cost costs unit.slot
 own-done code costs address unit done has instructions touches =
     let first : sum_by (class_cost costs) done.instructions ≡ sum_by (class_cost costs) (unit.instr ∷ slot_list unit.slot) =
     ap (sum_by (class_cost costs)) instructions in
-    let second : store_cost costs done.access ≡ stored costs (last_touch unit.instr unit.slot) =
+    let second : store_cost costs.store done.access ≡ stored costs (last_touch unit.instr unit.slot) =
     store-stored costs done.access ∙ ap (stored costs) touches in
     let parts = own-parts code costs address unit.instr unit.slot has in
     omega (arith, first, second, parts)
 
 -- ---- Its accesses: each visits stage 1, and a store visits none.
+abbrev pub first_latencies : Costs → List UnitAccess → ℕ
+first_latencies costs [] = 0
+first_latencies costs (access ∷ more) = stage_latency costs access.kind 1 + first_latencies costs more
+
+-- The cycles of a unit that was done where no caches are.
+abbrev pub uncached_cost : Costs → (address : ℕ) → Done → ℕ
+uncached_cost costs address done =
+    done_cost costs.cycles costs.store done.instructions done.access + first_latencies costs (accesses_of address done)
+
 abbrev goes : UnitAccess → Bool
 goes access = goes_through access.kind
 
 store-stages : (costs : Costs) (b : Bool) (made : UnitAccess) (more : List UnitAccess) → goes made ≡ b →
-    access_costs costs (filter goes (made ∷ more)) ≡ access_costs costs (made ∷ filter goes more)
+    first_latencies costs (filter goes (made ∷ more)) ≡ first_latencies costs (made ∷ filter goes more)
 store-stages costs true made more through = rw through refl
 store-stages costs false made more through =
     let none : stage_latency costs made.kind 1 ≡ 0 = by_kind made.kind through in
@@ -112,7 +121,7 @@ store-stages costs false made more through =
     by_kind kind.Slot through = cc
     by_kind kind.Load through = cc
 
-all-stages : (costs : Costs) (accesses : List UnitAccess) → access_costs costs (filter goes accesses) ≡ access_costs costs accesses
+all-stages : (costs : Costs) (accesses : List UnitAccess) → first_latencies costs (filter goes accesses) ≡ first_latencies costs accesses
 all-stages costs [] = refl
 all-stages costs (made ∷ more) =
     let rest = all-stages costs more in
@@ -120,7 +129,7 @@ all-stages costs (made ∷ more) =
     omega (arith, rest, first)
 
 matched-stages : (costs : Costs) (place : ℕ) (accesses : List UnitAccess) (own : List Access) → AllZip (Matches place) accesses own →
-    access_costs costs accesses ≡ first_stages costs own
+    first_latencies costs accesses ≡ first_stages costs own
 matched-stages costs place [] [] zip = refl
 matched-stages costs place [] (access ∷ own) zip = absurd zip
 matched-stages costs place (made ∷ more) [] zip = absurd zip
@@ -135,7 +144,7 @@ matched-stages costs place (made ∷ more) (access ∷ own) zip =
 pub unit-cycles : (code : ℕ → Option ℕ) (costs : Costs) (number address : ℕ) (unit : CodeUnit) (done : Done) →
     HasSlot code address unit.instr unit.slot → done.instructions ≡ unit.instr ∷ slot_list unit.slot →
     option_map (λ (a : Touched). a.store) done.access ≡ last_touch unit.instr unit.slot →
-    cost costs address done ≡ unit_cost costs number unit address
+    uncached_cost costs address done ≡ unit_cost costs number unit address
 unit-cycles code costs number address unit done has instructions touches =
     let own = own-done code costs address unit done has instructions touches in
     let zip = unit-matches code number address unit done has instructions touches in

@@ -1,5 +1,5 @@
 -- An ELF file under a profile: its faults, which of them is answered, and what its analysis says where it has none.
-use Rattle.std.specs.Prelude.{◌≡◌, ℕ, ◌<◌, List, [], ◌∷◌, Contains, Option, Some, None, true}
+use Rattle.std.specs.Prelude.{◌≡◌, ℕ, ◌<◌, List, [], ◌∷◌, Contains, Option, Some, None, length}
 use Rattle.cache_config.specs.declared.profile.Profile.{Profile}
 use Rattle.elf_mips.specs.declared.fault.ElfFault.{ElfFault}
 use Rattle.elf_mips.specs.declared.fault.ElfFault.TheVariants as elf_fault

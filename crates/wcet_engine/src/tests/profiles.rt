@@ -34,6 +34,9 @@ fn file_named(alloc: Global, words: &[u32], values: &[u32]) -> Result<Vec<u8>, A
     Ok(file)
 }
 
+/// A profile with a cache.
+const CACHE: &str = "[[cache]]\nserves = \"load\"\nsets = 1\nways = 1\nline = 4\nlatency = 0\n";
+
 #[test]
 fn takes_the_costs_of_the_profile(rt: HostRuntime) -> Result<(), Fail> {
     let alloc = rt.alloc();
@@ -128,7 +131,16 @@ fn refuses_by_the_profile(rt: HostRuntime) -> Result<(), Fail> {
             "stack_top = 0x00400008\nstack_size = 64",
             "refused region-clash 00400000\n",
         ),
-        ("cache = 1", "refused unbuilt 00000000\n"),
+        ("cache = 1", "refused config-range cache\n"),
+        (CACHE, "refused unbuilt 00000000\n"),
+        (
+            "[[cache]]\nserves = \"fetch\"\nsets = 3\nways = 1\nline = 16\nlatency = 1",
+            "refused config-range cache[0].sets\n",
+        ),
+        (
+            "[[cache]]\nserves = \"fetch\"\nsets = 4\nways = 1\nline = 16",
+            "refused config-key cache[0].latency\n",
+        ),
     ];
     for (profile, line) in rows {
         assert!(rt; with_profile(alloc, &file, profile)?.refuses(line));
@@ -143,7 +155,7 @@ fn answers_the_first_fault_of_both_files(rt: HostRuntime) -> Result<(), Fail> {
     let alloc = rt.alloc();
     // Each row has the faults of the rows behind it, and one more.
     let unknown = file_of(alloc, &[0xFFFF_FFFF])?;
-    let region = "entry = \"main\"\ncache = []\n[[region]]\nstart = 0x00400000\nsize = 4\n";
+    let region = "entry = \"main\"\n[[region]]\nstart = 0x00400000\nsize = 4\n[[cache]]\nserves = \"load\"\nsets = 1\nways = 1\nline = 4\nlatency = 0\n";
     let short: [u8; 1] = [0];
     let rows: [(&[u8], &str, &str); 8] = [
         (
@@ -157,11 +169,11 @@ fn answers_the_first_fault_of_both_files(rt: HostRuntime) -> Result<(), Fail> {
         (&unknown, region, "refused no-symbol 00000000\n"),
         (
             &unknown,
-            "cache = []\n[[region]]\nstart = 0x00400000\nsize = 4\n",
+            "[[region]]\nstart = 0x00400000\nsize = 4\n[[cache]]\nserves = \"load\"\nsets = 1\nways = 1\nline = 4\nlatency = 0\n",
             "refused region-clash 00400000\n",
         ),
-        (&unknown, "cache = []\n", "refused unbuilt 00000000\n"),
-        (&unknown, "", "refused unknown-word 00400000\n"),
+        (&unknown, CACHE, "refused unbuilt 00000000\n"),
+        (&unknown, "cache = []", "refused unknown-word 00400000\n"),
     ];
     for (bytes, profile, line) in rows {
         assert!(rt; with_profile(alloc, bytes, profile)?.refuses(line));

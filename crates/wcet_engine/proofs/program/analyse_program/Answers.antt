@@ -77,4 +77,4 @@ returns-clause-analysed c =
       faultless = c.in_ok-graphs.ensures.faultless;
     } in
     is-analysed image c.args.profile.now c.args.entry c.in_ok-graphs.graphs c.in_ok-nests.nests c.in_ok-net.net
-    c.in_ok-certificate.certificate is (c.in_ok-net.ensures.net image is) c.in_ok-certificate.ensures.certifies
+    c.in_ok-certificate.certificate c.requires is (c.in_ok-net.ensures.net image is) c.in_ok-certificate.ensures.certifies

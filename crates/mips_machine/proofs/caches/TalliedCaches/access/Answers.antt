@@ -9,7 +9,7 @@ use Rattle.mips_machine.proofs.caches.TalliedCaches.access.Goals as goal
 
 pub count_visit-requires-clause-same : goal.count_visit-requires-clause-same
 count_visit-requires-clause-same c =
-    rw (c.deref_mut.ensures.value, c.levels.ensures)
+    rw (c.deref_mut.ensures.value, c.levels.ensures.levels)
     (visit-fits c.args.side c.args.address c.self.inside.caches c.access-visit.new.self c.self.inside.tallies.items
     c.access-visit.ensures.after c.self.invariant)
 
@@ -21,7 +21,7 @@ given_back c =
     let new : List Tally = c.count_visit.new.tallies in
     let many : length new ≡ length old =
     visit-many c.args.side c.args.address c.self.inside.caches c.access-visit.new.self old c.access-visit.ensures.after c.self.invariant
-    c.access-visit.result c.levels.result.now c.deref_mut.result.now new c.access-visit.ensures.visit c.levels.ensures c.deref_mut.ensures.value
+    c.access-visit.result c.levels.result.now c.deref_mut.result.now new c.access-visit.ensures.visit c.levels.ensures.levels c.deref_mut.ensures.value
     c.count_visit.ensures in
     let lent : length c.deref_mut.result.now ≡ length old = ap (λ (ts : List Tally). length ts) c.deref_mut.ensures.value in
     let room = c.deref_mut.ensures.len in
@@ -33,7 +33,7 @@ invariant_of-self c =
     let new : List Tally = c.count_visit.new.tallies in
     let many : length new ≡ length old =
     visit-many c.args.side c.args.address c.self.inside.caches c.access-visit.new.self old c.access-visit.ensures.after c.self.invariant
-    c.access-visit.result c.levels.result.now c.deref_mut.result.now new c.access-visit.ensures.visit c.levels.ensures c.deref_mut.ensures.value
+    c.access-visit.result c.levels.result.now c.deref_mut.result.now new c.access-visit.ensures.visit c.levels.ensures.levels c.deref_mut.ensures.value
     c.count_visit.ensures in
     ap (λ (ts : List Tally). length ts) (given_back c) ∙ many ∙ c.self.invariant
     ∙ held-many c.args.side c.args.address c.self.inside.caches c.access-visit.new.self old c.access-visit.ensures.after c.self.invariant
@@ -44,7 +44,7 @@ returns-clause-after c =
     let new : List Tally = c.count_visit.new.tallies in
     let counts : new ≡ tallied c.args.side c.args.address c.self.inside.caches.caches old =
     visit-counts c.args.side c.args.address c.self.inside.caches c.access-visit.new.self old c.access-visit.ensures.after c.self.invariant
-    c.access-visit.result c.levels.result.now c.deref_mut.result.now new c.access-visit.ensures.visit c.levels.ensures c.deref_mut.ensures.value
+    c.access-visit.result c.levels.result.now c.deref_mut.result.now new c.access-visit.ensures.visit c.levels.ensures.levels c.deref_mut.ensures.value
     c.count_visit.ensures in
     rw (← c.self.view_is) (λ j. record {
       held = (c.access-visit.ensures.after j).caches;
@@ -58,5 +58,5 @@ returns-clause-counts c =
     let new : List Tally = c.count_visit.new.tallies in
     rw (← c.self.view_is) (λ most low. subst (AreAtMost (most + 1)) (sym (given_back c))
     (visit-low c.args.side c.args.address c.self.inside.caches c.access-visit.new.self old c.access-visit.ensures.after c.self.invariant
-    c.access-visit.result c.levels.result.now c.deref_mut.result.now new c.access-visit.ensures.visit c.levels.ensures c.deref_mut.ensures.value
+    c.access-visit.result c.levels.result.now c.deref_mut.result.now new c.access-visit.ensures.visit c.levels.ensures.levels c.deref_mut.ensures.value
     c.count_visit.ensures most low))
