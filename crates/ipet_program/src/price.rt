@@ -33,7 +33,8 @@ fn instr_price(profile: &Profile, fetch: AccessKind, instr: &Instr) -> u64
     ensures small { result ≤ 3 * most_cycles }
     ensures transfer { is_transfer instr.now ≡ true → result ≤ 2 * most_cycles }
 {
-    profile.cycles.instruction(instr) + (profile.stage_latency(fetch, 1) + touch_price(profile, instr))
+    profile.cycles.instruction(instr)
+        + (profile.stage_latency(fetch, 1) + touch_price(profile, instr))
 }
 
 /// The cycles of a unit: of its instruction and of the one in its slot.

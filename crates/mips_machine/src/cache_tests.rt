@@ -27,7 +27,13 @@ fn loop_misses_its_two_lines_once(rt: HostRuntime) -> Result<(), Fail> {
     if machine.caches() < 1 {
         return Err("no cache".into());
     }
-    assert_eq!(rt; machine.tally(0), Tally { hits: 16, misses: 2 });
+    assert_eq!(rt;
+        machine.tally(0),
+        Tally {
+            hits: 16,
+            misses: 2
+        }
+    );
     Ok(())
 }
 
@@ -43,7 +49,13 @@ fn misses_go_on_to_the_second_level(rt: HostRuntime) -> Result<(), Fail> {
     if machine.caches() < 2 {
         return Err("fewer than two caches".into());
     }
-    assert_eq!(rt; machine.tally(0), Tally { hits: 16, misses: 2 });
+    assert_eq!(rt;
+        machine.tally(0),
+        Tally {
+            hits: 16,
+            misses: 2
+        }
+    );
     assert_eq!(rt; machine.tally(1), Tally { hits: 0, misses: 2 });
     Ok(())
 }
@@ -100,6 +112,9 @@ fn unit_that_traps_visits_nothing(rt: HostRuntime) -> Result<(), Fail> {
     if machine.caches() < 1 {
         return Err("no cache".into());
     }
-    assert_eq!(rt; (machine.cycles(), machine.tally(0)), (before, Tally { hits: 0, misses: 0 }));
+    assert_eq!(rt;
+        (machine.cycles(), machine.tally(0)),
+        (before, Tally { hits: 0, misses: 0 })
+    );
     Ok(())
 }

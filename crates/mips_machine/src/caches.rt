@@ -152,8 +152,7 @@ impl TalliedCaches {
         ensures small { result ≤ 21 * most_latency }
         ensures counts { (most : ℕ) → AreAtMost most self.old.tallies → AreAtMost (most + 3) self.new.tallies }
     {
-        let fetch = self.access(Side::Fetch, address);
-        let slot = self.access(Side::Fetch, address + 4);
-        fetch + slot + self.data(access)
+        let fetches = self.access(Side::Fetch, address) + self.access(Side::Fetch, address + 4);
+        fetches + self.data(access)
     }
 }

@@ -106,7 +106,7 @@ latency-onto false latency other latencies others same rest = rest
 
 chain-latencies : (side : Side) (level : Level) (levels : List Level) → map (λ (l : Level). l.latency) (chain side (level ∷ levels))
     ≡ cond (serves level.serves side) (level.latency ∷ map (λ (l : Level). l.latency) (chain side levels))
-      (map (λ (l : Level). l.latency) (chain side levels))
+    (map (λ (l : Level). l.latency) (chain side levels))
 chain-latencies side level levels = by_served (serves level.serves side)
   where
     by_served : (served : Bool) → map (λ (l : Level). l.latency) (cond served (level ∷ chain side levels) (chain side levels))
@@ -127,10 +127,10 @@ levels-by (level ∷ levels) (other ∷ others) same =
       many = ap suc later.many;
       latencies = λ side. chain-latencies side level levels
           ∙ ap (λ (s : Serves). cond (serves s side) (level.latency ∷ map (λ (l : Level). l.latency) (chain side levels))
-            (map (λ (l : Level). l.latency) (chain side levels))) (ap (λ (c : Cache). c.serves) first)
+          (map (λ (l : Level). l.latency) (chain side levels))) (ap (λ (c : Cache). c.serves) first)
           ∙ latency-onto (serves other.serves side) level.latency other.latency
-            (map (λ (l : Level). l.latency) (chain side levels)) (map (λ (l : Level). l.latency) (chain side others))
-            (ap (λ (c : Cache). c.latency) first) (later.latencies side)
+          (map (λ (l : Level). l.latency) (chain side levels)) (map (λ (l : Level). l.latency) (chain side others))
+          (ap (λ (c : Cache). c.latency) first) (later.latencies side)
           ∙ sym (chain-latencies side other others);
     }
 

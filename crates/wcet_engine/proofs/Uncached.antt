@@ -75,7 +75,7 @@ along-first costs (unit ∷ did) =
     let own = sum_by-cons (λ (u : RunUnit). step_cost costs.cycles costs.store u.step) unit did in
     let whole = sum_by-cons (unit_cycles costs) unit did in
     let parts : first_latencies costs (accesses_along (unit ∷ did))
-        ≡ first_latencies costs (accesses_by unit.at.address unit.step) + first_latencies costs (accesses_along did) =
+    ≡ first_latencies costs (accesses_by unit.at.address unit.step) + first_latencies costs (accesses_along did) =
     first-append costs (accesses_by unit.at.address unit.step) (accesses_along did) in
     omega (arith, rest, own, whole, parts)
 

@@ -155,7 +155,8 @@ fn answers_the_first_fault_of_both_files(rt: HostRuntime) -> Result<(), Fail> {
     let alloc = rt.alloc();
     // Each row has the faults of the rows behind it, and one more.
     let unknown = file_of(alloc, &[0xFFFF_FFFF])?;
-    let region = "entry = \"main\"\n[[region]]\nstart = 0x00400000\nsize = 4\n[[cache]]\nserves = \"load\"\nsets = 1\nways = 1\nline = 4\nlatency = 0\n";
+    let region =
+        "entry = \"main\"\n[[region]]\nstart = 0x00400000\nsize = 4\n[[cache]]\nserves = \"load\"\nsets = 1\nways = 1\nline = 4\nlatency = 0\n";
     let short: [u8; 1] = [0];
     let rows: [(&[u8], &str, &str); 8] = [
         (
