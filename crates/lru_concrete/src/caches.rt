@@ -112,6 +112,14 @@ impl Caches {
         &self.levels
     }
 
+    /// The latency of the memory behind the caches, in cycles.
+    pub fn memory(&self) -> u64
+        ensures memory { result ≡ self.now.memory }
+        ensures low { result ≤ most_latency }
+    {
+        self.memory
+    }
+
     /// Lets an access go through the caches that serve its side, up to the first one that holds its block, else to
     /// memory, and tells what it visited. Each visited cache is touched.
     pub fn access(&mut self, side: Side, address: u32) -> Visit

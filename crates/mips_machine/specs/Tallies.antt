@@ -1,8 +1,9 @@
 -- How the code counts visits: by how many caches of its chain an access went to.
-use Rattle.std.specs.Prelude.{ℕ, zero, suc, ◌+◌, ◌==◌, ◌≤◌, ◌&&◌, Bool, true, false, List, [], ◌∷◌, All}
+use Rattle.std.specs.Prelude.{◌≡◌, ℕ, zero, suc, ◌+◌, ◌==◌, ◌≤◌, ◌&&◌, Bool, true, false, List, [], ◌∷◌, length, All}
 use Rattle.lru_concrete.specs.declared.level.Level.{Level}
 use Rattle.lru_concrete.specs.declared.level.Side.{Side}
-use Rattle.lru_concrete.specs.Chains.{serves}
+use Rattle.lru_concrete.specs.Chains.{Hierarchy, serves}
+use Rattle.lru_concrete.specs.Limits.{most_latency}
 use Rattle.mips_machine.specs.declared.caches.Tally.{Tally}
 
 -- One visit more, which found its block or didn't.
@@ -26,3 +27,9 @@ marked side (suc left) hit (level ∷ levels) (tally ∷ tallies) =
 -- No cache was visited more often.
 abbrev pub AreAtMost : ℕ → List Tally → Type 0
 AreAtMost most tallies = All (λ (tally : Tally). tally.hits + tally.misses ≤ most) tallies
+
+-- Each cache has a tally, and the latency of memory is the one behind the caches.
+pub record IsKept (caches : Hierarchy) (memory : ℕ) (tallies : List Tally) : Type 0 where
+  pub same : length tallies ≡ length caches.caches
+  pub behind : memory ≡ caches.memory
+  pub low : memory ≤ most_latency

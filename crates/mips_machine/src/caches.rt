@@ -24,6 +24,8 @@ pub struct Tally {
 #[derive(Debug, Drop)]
 pub struct TalliedCaches {
     caches: Caches,
+    /// The latency of memory, kept at hand for machines without caches, whose accesses all go there.
+    memory: u64,
     tallies: Vec<Tally>,
 }
 
@@ -35,7 +37,9 @@ impl Model for TalliedCaches {
 
     ghost view = { λ c. record { held = c.caches.caches; memory = c.caches.memory; tallies = c.tallies.items } };
 
-    ghost invariant = { λ c. length c.tallies.items ≡ length c.caches.caches };
+    ghost use Rattle.mips_machine.specs.Tallies.{IsKept};
+
+    ghost invariant = { λ c. IsKept c.caches c.memory c.tallies.items };
 }
 
 /// A tally with one visit more.
@@ -81,7 +85,12 @@ impl TalliedCaches {
     {
         let none = Tally { hits: 0, misses: 0 };
         let tallies = vec![in alloc; none; caches.levels().len()]?;
-        Ok(TalliedCaches { caches, tallies })
+        let memory = caches.memory();
+        Ok(TalliedCaches {
+            caches,
+            memory,
+            tallies,
+        })
     }
 
     /// How many caches there are.
@@ -99,8 +108,22 @@ impl TalliedCaches {
         self.tallies[cache as usize]
     }
 
-    /// Lets an access go through the caches, and gives its cycles.
+    /// Lets an access go through the caches, and gives its cycles. Where there is no cache it goes to memory.
     fn access(&mut self, side: Side, address: u32) -> u64
+        requires low { AreAtMost (2 ^ 64 - 2) self.old.tallies }
+        ensures cycles { result ≡ visit_cost (Some side) address self.old }
+        ensures after { self.new ≡ passed (Some side) address self.old }
+        ensures small { result ≤ 7 * most_latency }
+        ensures counts { (most : ℕ) → AreAtMost most self.old.tallies → AreAtMost (most + 1) self.new.tallies }
+    {
+        if self.tallies.is_empty() {
+            return self.memory;
+        }
+        self.visit(side, address)
+    }
+
+    /// Lets an access visit the caches, and counts what it visits.
+    fn visit(&mut self, side: Side, address: u32) -> u64
         requires low { AreAtMost (2 ^ 64 - 2) self.old.tallies }
         ensures cycles { result ≡ visit_cost (Some side) address self.old }
         ensures after { self.new ≡ passed (Some side) address self.old }
