@@ -34,6 +34,7 @@ use Rattle.net_model.specs.Moments.{Moment, Takes, VisitNone, VisitsNone, arcs_o
 use Rattle.net_model.specs.Net.{HasUnits, IsNet, IsUnitOf, LeadsOn, LeadsTo, calls as leads_in, comes_back, ends, goes}
 use Rattle.net_model.specs.Onward.{returns}
 use Rattle.net_model.specs.Places.{IsPlaceOf}
+use Rattle.net_model.specs.Walks.{WalksOn, access_numbers, own_range}
 use Rattle.net_model.specs.Runs.{AreMoments, GoesAlong, IsKeptRun, IsPlaceFor, IsUnitTold, StandsAt, numbered_accesses}
 use Rattle.net_model.specs.Targets.{targets_at, unit_at}
 use Rattle.net_model.proofs.Contents.{IsFetched-unit, unit-content}
@@ -250,6 +251,7 @@ pub record IsAlong (image : Image) (net : Net) (code : ℕ → Option ℕ) (open
   pub path : IsPath net.arcs number (arcs_of moments) to
   pub units : AreMoments net number (units_from code open_calls s states) moments
   pub uncached : VisitNone moments
+  pub walk : WalksOn net (own_range net) number (access_numbers net number) moments
   pub places : List ℕ
   pub done : AllZip (IsDoneAt image net) (units_from code open_calls s states) places
   pub along : number ∷ targets_along net.arcs (arcs_of moments) ≡ places ++ to ∷ []
@@ -263,6 +265,7 @@ stays image net code open_calls s number ended = record {
   path = refl;
   units = refl;
   uncached = All-nil VisitsNone;
+  walk = tt;
   places = [];
   done = tt;
   along = refl;
@@ -293,11 +296,11 @@ module _ (image : Image) (entry : ℕ) (net : Net) (is : IsNet image entry net) 
       let run_unit : RunUnit = record { at = record { calls = open_calls; address = s.pc }; step = step } in
       let arc = is.arcs.arcs from to led.leads in
       let fetched = IsFetched-unit image s.pc unit (unit-content image s.pc unit standing) in
-      let made : AreMade net from (numbered_accesses run_unit) =
-      subst (λ (all : List UnitAccess). AreMade net from (filter (λ (access : UnitAccess). goes_through access.kind) all))
+      let made : AreMade net from (numbered_accesses run_unit) (access_numbers net from) =
+      subst (λ (all : List UnitAccess). AreMade net from (filter (λ (access : UnitAccess). goes_through access.kind) all) (access_numbers net from))
       (sym (accesses-done s.pc did.done t later step did.ends))
       (unit-made image (code_at image.segments) net from s.pc here.at.place unit did.done is.accesses here.at.there here.at.same
-      standing fetched.slot did.instructions did.touches) in
+      standing fetched.slot did.instructions did.touches did.low) in
       let moments : List Moment = made.moments ++ Takes arc.0 ∷ rest.moments in
       let numbers : arcs_of moments ≡ arc.0 ∷ arcs_of rest.moments = made.quiet (Takes arc.0 ∷ rest.moments) in
       let after : StandsAt net (stand_after run_unit) to =
@@ -323,6 +326,8 @@ module _ (image : Image) (entry : ℕ) (net : Net) (is : IsNet image entry net) 
         units = (made.moments, (arc.0, (to, (rest.moments, told, refl, rest.units))));
         uncached = All-append VisitsNone made.moments (Takes arc.0 ∷ rest.moments) made.uncached
             (All-cons VisitsNone (Takes arc.0) rest.moments tt rest.uncached);
+        walk = made.walks (Takes arc.0 ∷ rest.moments)
+            (refl, (told.positive, (record { from = from; to = to }, arc.2, refl, rest.walk)));
         places = from ∷ rest.places;
         done = (
           record {
@@ -431,5 +436,6 @@ runs-along image entry net is units s states run =
         enters = refl;
         units = whole.rest.units;
       };
+      walk = (refl, (whole.arc, whole.first, whole.outside, whole.rest.walk));
       uncached = All-cons VisitsNone (Takes 1) whole.rest.moments tt whole.rest.uncached;
     }

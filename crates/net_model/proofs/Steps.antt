@@ -21,7 +21,7 @@ use Rattle.net_model.specs.Flow.{called, callees, own_ways, ways_on}
 use Rattle.net_model.specs.Onward.{is_stop, returns, stops}
 use Rattle.net_model.specs.Targets.{targets_at, unit_at}
 use Rattle.net_model.proofs.Contents.{HasSlot, IsFetched, IsFetched-unit, is_some-decided, unit-content}
-use Rattle.net_model.proofs.Zero.{IsEffect, IsZero, effect-takes, touch}
+use Rattle.net_model.proofs.Zero.{IsEffect, IsLow, IsZero, effect-takes, touch}
 use Rattle.net_model.proofs.Ways.{GoesItsWay, decided-goes, decided-zero}
 
 -- The instructions of a unit in order, and its load or store.
@@ -52,6 +52,7 @@ pub record UnitGoes (image : Image) (unit : CodeUnit) (s next : State) (later : 
   pub ends : IsDoneBy done next later step
   pub instructions : done.instructions ≡ unit.instr ∷ slot_list unit.slot
   pub touches : option_map (λ (a : Touched). a.store) done.access ≡ last_touch unit.instr unit.slot
+  pub low : IsLow done.access
   pub zero : IsZero next.regs
   pub goes : IsWayOn image unit s.pc done.link next.pc
 
@@ -124,6 +125,7 @@ plain_done-goes image s instr (Does access t) next later plain takes joins =
       ends = ends.form;
       instructions = refl;
       touches = takes.touches;
+      low = takes.low;
       zero = subst (λ (v : State). IsZero v.regs) ends.same takes.zero;
       goes = subst (λ (v : State). Contains (ways_on image unit s.pc) v.pc) ends.same here;
     }
@@ -175,6 +177,7 @@ slot_done-goes image s instr way slot (Does access t) next later transfer takes 
       ends = ends.form;
       instructions = refl;
       touches = takes.touches;
+      low = takes.low;
       zero = subst (λ (v : State). IsZero v.regs) ends.same takes.zero;
       goes = subst (λ (v : State). IsWayOn image unit s.pc way.link v.pc) ends.same on;
     }

@@ -1,5 +1,5 @@
 -- Register 0 stays 0, and what an instruction that takes effect is and touches.
-use Rattle.std.proofs.Common.{◌≡◌, ℕ, zero, suc, ◌%◌, ◌==◌, Bool, true, false, cond, List, [], ◌∷◌, Option, Some, None, refl, ap, sym, subst, ◌∙◌}
+use Rattle.std.proofs.Common.{◌≡◌, ℕ, zero, suc, ◌%◌, ◌^◌, ◌<◌, ◌==◌, Bool, true, false, cond, List, [], ◌∷◌, Option, Some, None, refl, ap, sym, subst, ◌∙◌, arith}
 use Rattle.std.specs.Prelude.{option_map, slice_set, slice_index}
 use Rattle.mips_decode.specs.declared.instr.LoadOp.{LoadOp}
 use Rattle.mips_decode.specs.declared.instr.LoadOp.TheVariants.{Lb, Lh, Lwl, Lw, Lbu, Lhu, Lwr}
@@ -44,11 +44,18 @@ touch (Load op rt base offset) = Some false
 touch (Store op rt base offset) = Some true
 touch instr = None
 
--- What an effect that takes place says: register 0 stays 0, the instruction doesn't stop the run, and its load or store is its own.
+-- A load or store goes to an address of 32 bits.
+abbrev pub IsLow : Option Touched → Type 0
+IsLow None = Unit {0}
+IsLow (Some access) = access.address < 2 ^ 32
+
+-- What an effect that takes place says: register 0 stays 0, the instruction doesn't stop the run, and its load or store
+-- is its own, at an address of 32 bits.
 pub record TakesEffect (instr : Instr) (access : Option Touched) (t : State) : Type 0 where
   pub zero : IsZero t.regs
   pub goes : is_stop instr ≡ false
   pub touches : option_map (λ (a : Touched). a.store) access ≡ touch instr
+  pub low : IsLow access
 
 abbrev pub IsEffect : Instr → Effect → Type 0
 IsEffect instr (Does access t) = TakesEffect instr access t
@@ -58,7 +65,7 @@ IsEffect instr (Traps kind) = Unit {0}
 on_registers-effect : (instr : Instr) (s : State) (o : Option Regs) → is_stop instr ≡ false → touch instr ≡ None →
     ((regs : Regs) → o ≡ Some regs → IsZero regs) → IsEffect instr (on_registers s o)
 on_registers-effect instr s None goes touches is = tt
-on_registers-effect instr s (Some regs) goes touches is = record { zero = is regs refl; goes = goes; touches = sym touches }
+on_registers-effect instr s (Some regs) goes touches is = record { zero = is regs refl; goes = goes; touches = sym touches; low = tt }
 
 result-zero : (regs : Regs) (number : ℕ) (o : Option ℕ) (result : Regs) → IsZero regs →
     option_map (with_reg regs number) o ≡ Some result → IsZero result
@@ -100,31 +107,52 @@ store-touched Swl address = refl
 store-touched Sw address = refl
 store-touched Swr address = refl
 
-load_in-effect : (s : State) (op : LoadOp) (rt base offset address : ℕ) (o : Option Region) → IsZero s.regs →
+load-low : (op : LoadOp) (address : ℕ) → address < 2 ^ 32 → (load_touched op address).address < 2 ^ 32
+load-low Lb address low = low
+load-low Lh address low = low
+load-low Lwl address low = omega (arith, low)
+load-low Lw address low = low
+load-low Lbu address low = low
+load-low Lhu address low = low
+load-low Lwr address low = omega (arith, low)
+
+store-low : (op : StoreOp) (address : ℕ) → address < 2 ^ 32 → (store_touched op address).address < 2 ^ 32
+store-low Sb address low = low
+store-low Sh address low = low
+store-low Swl address low = omega (arith, low)
+store-low Sw address low = low
+store-low Swr address low = omega (arith, low)
+
+load_in-effect : (s : State) (op : LoadOp) (rt base offset address : ℕ) (o : Option Region) → IsZero s.regs → address < 2 ^ 32 →
     IsEffect (Load op rt base offset) (load_in s op rt address o)
-load_in-effect s op rt base offset address None is = tt
-load_in-effect s op rt base offset address (Some region) is = record {
+load_in-effect s op rt base offset address None is low = tt
+load_in-effect s op rt base offset address (Some region) is low = record {
   zero = with_reg-zero s.regs rt (load_value op (address % 4) (reg s.regs rt) (number_in (load_touched op address) region)) is;
   goes = refl;
   touches = ap Some (load-touched op address);
+  low = load-low op address low;
 }
 
-store_by-effect : (s : State) (op : StoreOp) (rt base offset address number : ℕ) (b : Bool) → IsZero s.regs →
+store_by-effect : (s : State) (op : StoreOp) (rt base offset address number : ℕ) (b : Bool) → IsZero s.regs → address < 2 ^ 32 →
     IsEffect (Store op rt base offset)
     (cond b (Does (Some (store_touched op address)) (record s { regions = regions_with (store_touched op address) number s.regions })) (Traps ReadOnly))
-store_by-effect s op rt base offset address number true is = record {
+store_by-effect s op rt base offset address number true is low = record {
   zero = is;
   goes = refl;
   touches = ap Some (store-touched op address);
+  low = store-low op address low;
 }
-store_by-effect s op rt base offset address number false is = tt
+store_by-effect s op rt base offset address number false is low = tt
 
-store_in-effect : (s : State) (op : StoreOp) (rt base offset address : ℕ) (o : Option Region) → IsZero s.regs →
+store_in-effect : (s : State) (op : StoreOp) (rt base offset address : ℕ) (o : Option Region) → IsZero s.regs → address < 2 ^ 32 →
     IsEffect (Store op rt base offset) (store_in s op rt address o)
-store_in-effect s op rt base offset address None is = tt
-store_in-effect s op rt base offset address (Some region) is =
+store_in-effect s op rt base offset address None is low = tt
+store_in-effect s op rt base offset address (Some region) is low =
     store_by-effect s op rt base offset address
-    (store_value op (address % 4) (number_in (store_touched op address) region) (reg s.regs rt)) (is_writable region) is
+    (store_value op (address % 4) (number_in (store_touched op address) region) (reg s.regs rt)) (is_writable region) is low
+
+address_of-low : (s : State) (base offset : ℕ) → address_of s.regs base offset < 2 ^ 32
+address_of-low s base offset = omega arith
 
 -- What each instruction's effect says, where register 0 is 0 before.
 pub effect-takes : (instr : Instr) (s : State) → IsZero s.regs → IsEffect instr (effect instr s)
@@ -134,25 +162,25 @@ effect-takes (Shift op rd rt by) s is =
     on_registers-effect (Shift op rd rt by) s _ refl refl (λ regs same. some-zero _ regs (with_reg-zero s.regs rd _ is) same)
 effect-takes (HiLo Mfhi number) s is =
     on_registers-effect (HiLo Mfhi number) s _ refl refl (λ regs same. some-zero _ regs (with_reg-zero s.regs number _ is) same)
-effect-takes (HiLo Mthi number) s is = record { zero = is; goes = refl; touches = refl }
+effect-takes (HiLo Mthi number) s is = record { zero = is; goes = refl; touches = refl; low = tt }
 effect-takes (HiLo Mflo number) s is =
     on_registers-effect (HiLo Mflo number) s _ refl refl (λ regs same. some-zero _ regs (with_reg-zero s.regs number _ is) same)
-effect-takes (HiLo Mtlo number) s is = record { zero = is; goes = refl; touches = refl }
+effect-takes (HiLo Mtlo number) s is = record { zero = is; goes = refl; touches = refl; low = tt }
 effect-takes (MulDiv op rs rt) s is =
-    record { zero = multiplied-zero op (reg s.regs rs) (reg s.regs rt) s.regs is; goes = refl; touches = refl }
+    record { zero = multiplied-zero op (reg s.regs rs) (reg s.regs rt) s.regs is; goes = refl; touches = refl; low = tt }
 effect-takes (Imm op rt rs imm) s is =
     on_registers-effect (Imm op rt rs imm) s _ refl refl (λ regs same. result-zero s.regs rt (imm_value op (reg s.regs rs) imm) regs is same)
 effect-takes (Lui rt imm) s is =
     on_registers-effect (Lui rt imm) s _ refl refl (λ regs same. some-zero _ regs (with_reg-zero s.regs rt _ is) same)
 effect-takes (Load op rt base offset) s is =
     let address = address_of s.regs base offset in
-    aligned_or-effect (Load op rt base offset) _ _ (load_in-effect s op rt base offset address (region_of (load_touched op address) s.regions) is)
+    aligned_or-effect (Load op rt base offset) _ _ (load_in-effect s op rt base offset address (region_of (load_touched op address) s.regions) is (address_of-low s base offset))
 effect-takes (Store op rt base offset) s is =
     let address = address_of s.regs base offset in
-    aligned_or-effect (Store op rt base offset) _ _ (store_in-effect s op rt base offset address (region_of (store_touched op address) s.regions) is)
-effect-takes (Branch op rs rt offset) s is = record { zero = is; goes = refl; touches = refl }
-effect-takes (Jump link index) s is = record { zero = is; goes = refl; touches = refl }
-effect-takes (JumpReg rs) s is = record { zero = is; goes = refl; touches = refl }
-effect-takes (JumpLink rd rs) s is = record { zero = is; goes = refl; touches = refl }
+    aligned_or-effect (Store op rt base offset) _ _ (store_in-effect s op rt base offset address (region_of (store_touched op address) s.regions) is (address_of-low s base offset))
+effect-takes (Branch op rs rt offset) s is = record { zero = is; goes = refl; touches = refl; low = tt }
+effect-takes (Jump link index) s is = record { zero = is; goes = refl; touches = refl; low = tt }
+effect-takes (JumpReg rs) s is = record { zero = is; goes = refl; touches = refl; low = tt }
+effect-takes (JumpLink rd rs) s is = record { zero = is; goes = refl; touches = refl; low = tt }
 effect-takes (Stop Syscall code) s is = tt
 effect-takes (Stop Break code) s is = tt

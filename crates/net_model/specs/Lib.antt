@@ -13,3 +13,5 @@ pub mod Accesses
 pub mod Net
 pub mod Runs
 pub mod Moments
+pub mod Walks
+pub mod Claims

@@ -20,6 +20,7 @@ use Rattle.net_model.specs.Moments.{Makes, Moment, Takes, VisitNone, arcs_of}
 use Rattle.net_model.specs.Net.{IsNet}
 use Rattle.net_model.specs.Places.{IsPlaceOf}
 use Rattle.net_model.specs.Targets.{targets_at}
+use Rattle.net_model.specs.Walks.{IsWalk, own_range}
 
 -- The place where a run stands: that of the address in the context of the open calls.
 pub record IsPlaceFor (net : Net) (stand : Stand) (number : ℕ) : Type 0 where
@@ -110,5 +111,7 @@ pub record GoesAlong (net : Net) (code : ℕ → Option ℕ) (s : State) (states
   pub to : ℕ
   pub path : IsRunPath net.arcs (arcs_of moments) to
   pub units : AreRunMoments net s.pc (units_of code s states) moments
+  -- So they are a walk.
+  pub walk : IsWalk net (own_range net) moments
   -- Without caches no access visits one.
   pub uncached : VisitNone moments
