@@ -1,0 +1,2 @@
+-- Laws of caches along the moments of a run.
+pub mod Visited

@@ -1,0 +1,2 @@
+-- What the accesses of a run do to caches.
+pub mod Moves
