@@ -5,3 +5,4 @@ pub mod Encoded
 pub mod Candidates
 pub mod Stores
 pub mod UnitsEnd
+pub mod Placed
