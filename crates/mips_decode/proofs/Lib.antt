@@ -6,3 +6,5 @@ pub mod Candidates
 pub mod Stores
 pub mod UnitsEnd
 pub mod Placed
+pub mod WrittenPlaces
+pub mod ReadPlaces

@@ -1,7 +1,6 @@
 -- What registers hold after a write, and which places a set has.
-use Rattle.std.proofs.Common.{◌≡◌, ◌⊎◌, ℕ, ◌<◌, ◌==◌, ◌^◌, max, Bool, true, false, cond, List, [], ◌∷◌, length, refl, ap, ◌∙◌, sym, subst, inl, inr, arith}
-use Rattle.std.specs.Int.{bit_at}
-use Rattle.std.specs.Prelude.{bit_or, slice_set, slice_index}
+use Rattle.std.proofs.Common.{◌≡◌, ℕ, ◌<◌, ◌==◌, ◌^◌, max, true, false, cond, [], ◌∷◌, length, refl, ap, ◌∙◌, sym, subst, inl, inr, arith}
+use Rattle.std.specs.Prelude.{slice_set}
 use Rattle.std.proofs.lemmas.Bool.{cases_eq}
 use Rattle.std.proofs.lemmas.Bool.Decides.{nat_tests}
 use Rattle.std.proofs.lemmas.List.{get_or-set_same, get_or-set_other}
@@ -102,8 +101,8 @@ set-alike : (one other : Regs) (number value : ℕ) → number < 32 → length o
     (record other { general = slice_set other.general number value })
 set-alike one other number value low count other_count = λ place. elim (cases_eq place number) [
   | inl e ↦ inl (subst (λ n. held_in (record one { general = slice_set one.general number value }) n
-    ≡ held_in (record other { general = slice_set other.general number value }) n) (sym e)
-    (set-same one number value low count ∙ sym (set-same other number value low other_count)))
+      ≡ held_in (record other { general = slice_set other.general number value }) n) (sym e)
+      (set-same one number value low count ∙ sym (set-same other number value low other_count)))
   | inr differ ↦ inr (set-other one number value place differ, set-other other number value place differ)
 ]
 
@@ -134,7 +133,7 @@ pub alike-hi_lo : (one other : Regs) (upper lower : ℕ) →
 alike-hi_lo one other upper lower = λ place. elim (cases_eq place hi) [
   | inl e ↦ inl (subst (λ n. held_in (with_hi_lo one upper lower) n ≡ held_in (with_hi_lo other upper lower) n) (sym e) refl)
   | inr not_hi ↦ elim (cases_eq place lo) [
-      | inl e ↦ inl (subst (λ n. held_in (with_hi_lo one upper lower) n ≡ held_in (with_hi_lo other upper lower) n) (sym e) refl)
-      | inr not_lo ↦ inr (hi_lo-other one upper lower place not_hi not_lo, hi_lo-other other upper lower place not_hi not_lo)
-    ]
+    | inl e ↦ inl (subst (λ n. held_in (with_hi_lo one upper lower) n ≡ held_in (with_hi_lo other upper lower) n) (sym e) refl)
+    | inr not_lo ↦ inr (hi_lo-other one upper lower place not_hi not_lo, hi_lo-other other upper lower place not_hi not_lo)
+  ]
 ]

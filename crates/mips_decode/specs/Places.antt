@@ -1,5 +1,5 @@
 -- What it means that an instruction reads and writes certain places: the registers, HI and LO.
-use Rattle.std.specs.Prelude.{◌≡◌, ◌⊎◌, ℕ, ◌==◌, List, length, Option, Some, None, IfSome, if◌then◌else◌}
+use Rattle.std.specs.Prelude.{◌≡◌, ◌⊎◌, ℕ, ◌==◌, length, Option, Some, None, IfSome, if◌then◌else◌}
 use Rattle.std.specs.Int.{bit_at}
 use Rattle.mips_decode.specs.declared.instr.Instr.{Instr}
 use Rattle.mips_decode.specs.declared.step.Regs.{Regs}
@@ -64,6 +64,6 @@ WaysAlike one other (Some way) (Some other_way) =
 -- same but for the registers, its effects are alike, and so are its ways, if it is a jump or branch.
 pub record ReadsOnly (places : ℕ) (instr : Instr) : Type 0 where
   pub results : (s : State) (other : Regs) → Agree places s.regs other →
-    EffectsAlike s.regs other (effect instr s) (effect instr (record s { regs = other }))
+      EffectsAlike s.regs other (effect instr s) (effect instr (record s { regs = other }))
   pub ways : (pc : ℕ) (one other : Regs) → Agree places one other →
-    WaysAlike one other (decided instr pc one) (decided instr pc other)
+      WaysAlike one other (decided instr pc one) (decided instr pc other)

@@ -104,7 +104,8 @@ fn word_of(instr: &Instr) -> u32
     }
 }
 
-/// The word that the table has for an instruction whose fields are in their ranges.
+/// The word that the table has for an instruction whose fields are in their ranges (MIPS RISC Architecture, Kane and
+/// Heinrich 1992, appendix A); `decode` gives the instruction back.
 pub fn encode(instr: &Instr) -> u32
     requires { IsValid instr.now }
     ensures word { result ≡ word_of instr.now }

@@ -136,8 +136,8 @@ pub fn is_transfer(instr: &Instr) -> bool
     }
 }
 
-/// Decides where the transfer at `pc` goes and writes its link; none for an instruction that is
-/// no transfer.
+/// Decides where the transfer at `pc` goes and writes its link, which is the address behind its delay slot; none for an
+/// instruction that is no transfer (MIPS RISC Architecture, Kane and Heinrich 1992, appendix A: jumps and branches).
 pub fn decide(instr: &Instr, pc: u32, regs: &mut Regs) -> Option<Way>
     requires valid { IsValid instr.now }
     requires slot { pc + 8 < 2 ^ 32 }
