@@ -10,15 +10,25 @@ use crate::instr::{BranchOp, HiLoOp, Instr, LoadOp, MulOp, Op3, Reg};
 /// What the cost of an instruction depends on.
 #[derive(Clone, Copy, Debug, PartialEq, Eq)]
 pub enum CostClass {
+    /// Sums, differences, comparisons and logical operations, on registers and on immediates, and LUI.
     Alu,
+    /// Shifts, by a fixed number of bits or by a register.
     Shift,
+    /// MULT and MULTU.
     Mult,
+    /// DIV and DIVU.
     Div,
+    /// MFHI, MTHI, MFLO and MTLO.
     Move,
+    /// LB, LBU, LH, LHU, LW, LWL and LWR.
     Load,
+    /// SB, SH, SW, SWL and SWR.
     Store,
+    /// BEQ, BNE, BLEZ, BGTZ, BLTZ, BGEZ, BLTZAL and BGEZAL, taken or not.
     Branch,
+    /// J, JAL, JR and JALR.
     Jump,
+    /// SYSCALL and BREAK.
     Stop,
 }
 

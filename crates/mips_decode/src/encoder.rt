@@ -12,7 +12,7 @@ use crate::numbers::{
 /// A word of the register format whose op is 0.
 fn register_word(rs: Reg, rt: Reg, rd: Reg, sa: u8, function: u32) -> u32
     requires shift { sa < 32 }
-    requires function { function < 64 }
+    requires function { function < 2 ^ 6 }
     ensures { result ≡ register_word 0 rs rt rd sa function }
 {
     (rs.number() << 21)
@@ -24,7 +24,7 @@ fn register_word(rs: Reg, rt: Reg, rd: Reg, sa: u8, function: u32) -> u32
 
 /// A word of the immediate format.
 fn immediate_word(op: u32, rs: Reg, rt: Reg, imm: u16) -> u32
-    requires { op < 64 }
+    requires { op < 2 ^ 6 }
     ensures { result ≡ immediate_word op rs rt imm }
 {
     (op << 26) + (rs.number() << 21) + (rt.number() << 16) + u32::from(imm)

@@ -12,15 +12,21 @@ use crate::step::Regs;
 /// Whether a transfer calls, returns to its caller (`jr $31`), or does neither.
 #[derive(Clone, Copy, Debug, PartialEq, Eq)]
 pub enum LinkKind {
+    /// It neither calls nor returns: no link is written, or the branch isn't taken.
     Plain,
+    /// It goes to its target with a link behind its delay slot: JAL, JALR, and BLTZAL or BGEZAL where it is taken.
     Call,
+    /// It goes to the address in register 31: `jr $31`.
     Return,
 }
 
 /// Where a transfer goes, and whether it calls or returns.
 #[derive(Clone, Copy, Debug, PartialEq, Eq)]
 pub struct Way {
+    /// The address of the unit behind the delay slot: the target, or where the branch isn't taken that of the instruction
+    /// behind the slot.
     pub next: u32,
+    /// Whether it calls or returns.
     pub kind: LinkKind,
 }
 
