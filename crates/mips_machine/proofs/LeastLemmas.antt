@@ -145,7 +145,7 @@ found-clash image profile (Some address) least = λ off.
     let clash = least.says in
     let region : Region = region_of clash.segment in
     let apart : All (AreApart region) (given_regions profile) =
-        All-contains (IsOff profile) image.segments clash.segment off clash.loaded in
+    All-contains (IsOff profile) image.segments clash.segment off clash.loaded in
     All-contains (AreApart region) (given_regions profile) clash.shared.other apart clash.shared.listed address
     (clash.shared.shared.first.from, clash.shared.shared.first.below)
     (clash.shared.shared.second.from, clash.shared.shared.second.below)

@@ -62,7 +62,8 @@ fn profile_takes(profile: &Profile, fill: &Fill) -> bool
         || list_any (takes_fill fill.now) (map area_of profile.now.regions)) }
 {
     let stack = profile.stack_top - profile.stack_size;
-    zeros_take(stack, profile.stack_size + AREA_ABOVE as u32, fill) || areas_take(profile.regions.as_slice(), fill)
+    zeros_take(stack, profile.stack_size + AREA_ABOVE as u32, fill)
+        || areas_take(profile.regions.as_slice(), fill)
 }
 
 /// Whether the bytes of a fill, where it has some, lie in one region that can be written.
