@@ -1,5 +1,6 @@
 -- The limits of a profile: its numbers, and the addresses that its regions may cover.
 use Rattle.std.specs.Prelude.{ℕ, ◌+◌, ◌-◌, ◌<◌, ◌≤◌}
+use Rattle.mips_decode.specs.State.{return_address}
 
 -- The most cycles of one access of memory, of one store and of one instruction.
 abbrev pub most_cycles : ℕ
@@ -29,7 +30,7 @@ area_above = 64
 
 -- The end of all memory: the address at which the entry's caller goes on.
 abbrev pub memory_end : ℕ
-memory_end = 0xFFFFFFF0
+memory_end = return_address
 
 -- The most regions of a profile.
 abbrev pub most_regions : ℕ

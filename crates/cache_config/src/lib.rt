@@ -17,6 +17,7 @@ mod spans;
 mod values;
 
 pub use fault::ConfigFault;
+pub use limits::AREA_ABOVE;
 pub use profile::{Cycles, Profile, Region};
 pub use read::read_profile;
 

@@ -1,5 +1,7 @@
 //! The limits of a profile's numbers.
 
+use mips_decode::RETURN_ADDRESS;
+
 /// The most cycles of an access of memory, of a store and of an instruction.
 pub(crate) const MOST_CYCLES: u64 = 1_000_000;
 
@@ -15,11 +17,12 @@ pub(crate) const LEAST_STACK: u64 = 64;
 /// The most bytes of the stack, and of a region.
 pub(crate) const MOST_BYTES: u64 = 16_777_216;
 
-/// The bytes above the stack's top that belong to the stack.
-pub(crate) const AREA_ABOVE: u64 = 64;
+/// The bytes above the stack's top that belong to the stack: the area of its caller's arguments (System V ABI, MIPS
+/// processor supplement).
+pub const AREA_ABOVE: u64 = 64;
 
-/// The end of all memory.
-pub(crate) const MEMORY_END: u64 = 0xFFFF_FFF0;
+/// The end of all memory: the place of return.
+pub(crate) const MEMORY_END: u64 = RETURN_ADDRESS as u64;
 
 /// The most regions.
 pub(crate) const MOST_REGIONS: usize = 16;

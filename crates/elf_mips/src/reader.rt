@@ -22,7 +22,11 @@ use crate::symbols::read_symbols;
 use std::alloc::{AllocError, Global};
 use wcet_io::List;
 
-/// The image that a file of at most 16 MiB loads, or the file's first fault.
+/// The image that a file of at most 16 MiB loads, or the file's first fault, by the System V ABI (object files) and its
+/// MIPS processor supplement.
+///
+/// `Bad` is the fault of the least kind in the order of `ElfKind`, and of that kind the one at the least offset. `Memory`
+/// says nothing of the file: no memory was left for the segments, the symbols or the records.
 pub fn read_image(alloc: Global, bytes: &[u8]) -> Result<Image, ElfFault>
     requires { length bytes.now ≤ 16777216 }
     ensures sound { OnOk result (IsClean bytes.now) }

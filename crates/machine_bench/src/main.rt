@@ -9,7 +9,7 @@ use anyhow::{Result, bail};
 use cache_config::{Profile, read_profile};
 use elf_mips::read_image;
 use lru_concrete::Caches;
-use mips_machine::{Machine, Outcome, Regs, has_clash};
+use mips_machine::{Machine, Outcome, Regs, clash_place};
 use std::alloc::{AllocError, Global};
 use std::io::Stdin;
 
@@ -93,7 +93,7 @@ fn loop_machine(alloc: Global, profile: &Profile) -> Result<Machine> {
     let Ok(image) = read_image(alloc, &file) else {
         bail!("the loop's file isn't read");
     };
-    if has_clash(&image, profile) {
+    if clash_place(&image, profile).is_some() {
         bail!("the loop lies in the stack");
     }
     let regs = Regs {

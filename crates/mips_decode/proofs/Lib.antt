@@ -5,3 +5,6 @@ pub mod Encoded
 pub mod Candidates
 pub mod Stores
 pub mod UnitsEnd
+pub mod Placed
+pub mod WrittenPlaces
+pub mod ReadPlaces

@@ -14,3 +14,4 @@ pub mod Calls
 pub mod Records
 pub mod Units
 pub mod Columns
+pub mod Places

@@ -16,7 +16,7 @@ pub record State : Type 0 where
 
 -- The place of return: a program has returned when its next unit would be here.
 abbrev pub return_address : ℕ
-return_address = 4294967280
+return_address = 0xFFFFFFF0
 
 -- A region can be executed where flag 1 is set, and written where flag 2 is.
 abbrev pub is_executable : Region → Bool

@@ -1,6 +1,8 @@
 //! The places that an instruction reads and writes, and its cost class.
 
 ghost use Rattle.mips_decode.specs.Columns.{bits_of, class_of, places_read, places_written, register};
+ghost use Rattle.mips_decode.specs.Places.{ReadsOnly, WritesOnly};
+ghost use Rattle.mips_decode.specs.Table.{IsValid};
 ghost use Rattle.std.specs.Prelude.{◌≡◌, ◌<◌, ◌^◌, List, ℕ};
 
 use crate::instr::{BranchOp, HiLoOp, Instr, LoadOp, MulOp, Op3, Reg};
@@ -8,15 +10,25 @@ use crate::instr::{BranchOp, HiLoOp, Instr, LoadOp, MulOp, Op3, Reg};
 /// What the cost of an instruction depends on.
 #[derive(Clone, Copy, Debug, PartialEq, Eq)]
 pub enum CostClass {
+    /// Sums, differences, comparisons and logical operations, on registers and on immediates, and LUI.
     Alu,
+    /// Shifts, by a fixed number of bits or by a register.
     Shift,
+    /// MULT and MULTU.
     Mult,
+    /// DIV and DIVU.
     Div,
+    /// MFHI, MTHI, MFLO and MTLO.
     Move,
+    /// LB, LBU, LH, LHU, LW, LWL and LWR.
     Load,
+    /// SB, SH, SW, SWL and SWR.
     Store,
+    /// BEQ, BNE, BLEZ, BGTZ, BLTZ, BGEZ, BLTZAL and BGEZAL, taken or not.
     Branch,
+    /// J, JAL, JR and JALR.
     Jump,
+    /// SYSCALL and BREAK.
     Stop,
 }
 
@@ -40,8 +52,8 @@ fn written(reg: Reg) -> u64
     if reg.number() == 0 { 0 } else { bit(reg) }
 }
 
-/// The places that an instruction reads: bit n for register n, bit 32 for HI, bit 33 for LO.
-pub fn reads(instr: &Instr) -> u64
+/// The bits of an instruction's operands.
+fn operand_bits(instr: &Instr) -> u64
     ensures { result ≡ bits_of (places_read instr.now) }
 {
     match *instr {
@@ -93,8 +105,18 @@ pub fn reads(instr: &Instr) -> u64
     }
 }
 
-/// The places that an instruction writes, as in `reads`; bit 0 never is among them.
-pub fn writes(instr: &Instr) -> u64
+/// The places that an instruction reads: bit n for register n, bit 32 for HI, bit 33 for LO. They are enough:
+/// where registers agree on them, the instruction traps, goes on, loads and stores alike (operands by MIPS RISC
+/// Architecture, Kane and Heinrich 1992, appendix A).
+pub fn reads(instr: &Instr) -> u64
+    ensures exact { result ≡ bits_of (places_read instr.now) }
+    ensures enough { IsValid instr.now → ReadsOnly result instr.now }
+{
+    operand_bits(instr)
+}
+
+/// The bits of an instruction's results.
+fn result_bits(instr: &Instr) -> u64
     ensures { result ≡ bits_of (places_written instr.now) }
 {
     match *instr {
@@ -131,7 +153,16 @@ pub fn writes(instr: &Instr) -> u64
     }
 }
 
-/// The class that an instruction's cost is taken from.
+/// The places that an instruction writes, as in `reads`; bit 0 never is among them. All others keep what they hold,
+/// also where a jump or branch links (results by MIPS RISC Architecture, Kane and Heinrich 1992, appendix A).
+pub fn writes(instr: &Instr) -> u64
+    ensures exact { result ≡ bits_of (places_written instr.now) }
+    ensures only { WritesOnly result instr.now }
+{
+    result_bits(instr)
+}
+
+/// The class that an instruction's cost is taken from. Shifts by a register cost as other shifts do.
 pub fn cost_class(instr: &Instr) -> CostClass
     ensures { result ≡ class_of instr.now }
 {

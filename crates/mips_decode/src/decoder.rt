@@ -267,7 +267,8 @@ fn by_fields(fields: &Fields) -> Option<Instr>
     by_op(fields)
 }
 
-/// The instruction that the table has for a word; none where it has no row.
+/// The instruction that the table has for a word; none where it has no row, and so also where a field that its operation
+/// doesn't have isn't 0 (MIPS RISC Architecture, Kane and Heinrich 1992, appendix A).
 pub fn decode(word: u32) -> Option<Instr>
     ensures exact { result ≡ decoded word }
     ensures found { IfSome result (IsRow word) }

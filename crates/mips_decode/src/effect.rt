@@ -103,7 +103,8 @@ fn put(regs: &mut Regs, reg: Reg, value: Option<u32>) -> bool
 }
 
 /// Does an arithmetic instruction; `false` where its signed result overflows, and then the
-/// registers stay. Loads, stores, jumps, branches and stops change nothing here.
+/// registers stay. Loads, stores, jumps, branches and stops change nothing here. The operations are those of MIPS RISC
+/// Architecture, Kane and Heinrich 1992, appendix A; a division by zero, which it leaves open, gives HI = LO = 0.
 pub fn apply(instr: &Instr, regs: &mut Regs) -> bool
     requires { IsValid instr.now }
     ensures done { OnTrue result (arithmetic instr.now regs.old ≡ Some regs.new) }

@@ -12,7 +12,7 @@ use crate::numbers::{
 /// A word of the register format whose op is 0.
 fn register_word(rs: Reg, rt: Reg, rd: Reg, sa: u8, function: u32) -> u32
     requires shift { sa < 32 }
-    requires function { function < 64 }
+    requires function { function < 2 ^ 6 }
     ensures { result ≡ register_word 0 rs rt rd sa function }
 {
     (rs.number() << 21)
@@ -24,7 +24,7 @@ fn register_word(rs: Reg, rt: Reg, rd: Reg, sa: u8, function: u32) -> u32
 
 /// A word of the immediate format.
 fn immediate_word(op: u32, rs: Reg, rt: Reg, imm: u16) -> u32
-    requires { op < 64 }
+    requires { op < 2 ^ 6 }
     ensures { result ≡ immediate_word op rs rt imm }
 {
     (op << 26) + (rs.number() << 21) + (rt.number() << 16) + u32::from(imm)
@@ -104,7 +104,8 @@ fn word_of(instr: &Instr) -> u32
     }
 }
 
-/// The word that the table has for an instruction whose fields are in their ranges.
+/// The word that the table has for an instruction whose fields are in their ranges (MIPS RISC Architecture, Kane and
+/// Heinrich 1992, appendix A); `decode` gives the instruction back.
 pub fn encode(instr: &Instr) -> u32
     requires { IsValid instr.now }
     ensures word { result ≡ word_of instr.now }

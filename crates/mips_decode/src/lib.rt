@@ -29,5 +29,5 @@ pub use laws::units_grow;
 pub use memory::{
     address_of, load_touched, load_value, number_at, put_number, store_touched, store_value,
 };
-pub use step::{AccessKind, Regs, Touched, TrapKind};
+pub use step::{AccessKind, RETURN_ADDRESS, Regs, Touched, TrapKind};
 pub use transfer::{LinkKind, Way, branch_links, branch_target, decide, is_transfer, jump_target};

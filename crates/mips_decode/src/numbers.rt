@@ -1,15 +1,15 @@
-//! The numbers that the operations have in the instruction table.
+//! The numbers that the operations have in the instruction table. Their fields have six bits.
 
 ghost use Rattle.mips_decode.specs.Decoder.{hi_lo_op, imm_op, load_op, mul_op, shift_op, stop_op, store_op, three_op};
 ghost use Rattle.mips_decode.specs.Table.{hi_lo_number, imm_number, load_number, mul_number, shift_number, stop_number, store_number, three_number};
-ghost use Rattle.std.specs.Prelude.{◌≡◌, ◌<◌, Option};
+ghost use Rattle.std.specs.Prelude.{◌≡◌, ◌<◌, ◌^◌, Option};
 
 use crate::instr::{HiLoOp, ImmOp, LoadOp, MulOp, Op3, ShiftOp, StopOp, StoreOp};
 
 /// The number of an operation on two registers.
 pub fn three_number(op: Op3) -> u32
     ensures value { result ≡ three_number op }
-    ensures small { result < 64 }
+    ensures small { result < 2 ^ 6 }
 {
     match op {
         Op3::Sllv => 4,
@@ -53,7 +53,7 @@ pub fn three_op(number: u32) -> Option<Op3>
 /// The number of a shift.
 pub fn shift_number(op: ShiftOp) -> u32
     ensures value { result ≡ shift_number op }
-    ensures small { result < 64 }
+    ensures small { result < 2 ^ 6 }
 {
     match op {
         ShiftOp::Sll => 0,
@@ -77,7 +77,7 @@ pub fn shift_op(number: u32) -> Option<ShiftOp>
 /// The number of a move from or to HI or LO.
 pub fn hi_lo_number(op: HiLoOp) -> u32
     ensures value { result ≡ hi_lo_number op }
-    ensures small { result < 64 }
+    ensures small { result < 2 ^ 6 }
 {
     match op {
         HiLoOp::Mfhi => 16,
@@ -103,7 +103,7 @@ pub fn hi_lo_op(number: u32) -> Option<HiLoOp>
 /// The number of a multiplication or division.
 pub fn mul_number(op: MulOp) -> u32
     ensures value { result ≡ mul_number op }
-    ensures small { result < 64 }
+    ensures small { result < 2 ^ 6 }
 {
     match op {
         MulOp::Mult => 24,
@@ -129,7 +129,7 @@ pub fn mul_op(number: u32) -> Option<MulOp>
 /// The number of a system call or breakpoint.
 pub fn stop_number(op: StopOp) -> u32
     ensures value { result ≡ stop_number op }
-    ensures small { result < 64 }
+    ensures small { result < 2 ^ 6 }
 {
     match op {
         StopOp::Syscall => 12,
@@ -151,7 +151,7 @@ pub fn stop_op(number: u32) -> Option<StopOp>
 /// The number of an operation on an immediate.
 pub fn imm_number(op: ImmOp) -> u32
     ensures value { result ≡ imm_number op }
-    ensures small { result < 64 }
+    ensures small { result < 2 ^ 6 }
 {
     match op {
         ImmOp::Addi => 8,
@@ -183,7 +183,7 @@ pub fn imm_op(number: u32) -> Option<ImmOp>
 /// The number of a load.
 pub fn load_number(op: LoadOp) -> u32
     ensures value { result ≡ load_number op }
-    ensures small { result < 64 }
+    ensures small { result < 2 ^ 6 }
 {
     match op {
         LoadOp::Lb => 32,
@@ -215,7 +215,7 @@ pub fn load_op(number: u32) -> Option<LoadOp>
 /// The number of a store.
 pub fn store_number(op: StoreOp) -> u32
     ensures value { result ≡ store_number op }
-    ensures small { result < 64 }
+    ensures small { result < 2 ^ 6 }
 {
     match op {
         StoreOp::Sb => 40,

@@ -1,5 +1,8 @@
 //! What a unit step tells besides the new state.
 
+/// The place of return, where the entry's caller goes on: the entry has returned when the next unit would be here.
+pub const RETURN_ADDRESS: u32 = 0xFFFF_FFF0;
+
 /// Why a unit traps. The order is that in which several causes of one instruction are looked for.
 #[derive(Clone, Copy, Debug, PartialEq, Eq)]
 pub enum TrapKind {
@@ -25,8 +28,11 @@ pub enum TrapKind {
 /// That of LWL, LWR, SWL and SWR is the whole aligned word.
 #[derive(Clone, Copy, Debug, PartialEq, Eq)]
 pub struct Touched {
+    /// The address of the first byte.
     pub address: u32,
+    /// How many bytes: 1, 2 or 4.
     pub size: u32,
+    /// Whether it is a store; else it is a load.
     pub store: bool,
 }
 
@@ -46,7 +52,10 @@ pub enum AccessKind {
 /// The registers: the 32 general ones, and HI and LO. No instruction writes register 0.
 #[derive(Clone, Copy, Debug, PartialEq, Eq)]
 pub struct Regs {
+    /// The general registers, by their numbers.
     pub general: [u32; 32],
+    /// The upper half of a product, or the remainder of a division.
     pub hi: u32,
+    /// The lower half of a product, or the quotient of a division.
     pub lo: u32,
 }

@@ -12,15 +12,21 @@ use crate::step::Regs;
 /// Whether a transfer calls, returns to its caller (`jr $31`), or does neither.
 #[derive(Clone, Copy, Debug, PartialEq, Eq)]
 pub enum LinkKind {
+    /// It neither calls nor returns: no link is written, or the branch isn't taken.
     Plain,
+    /// It goes to its target with a link behind its delay slot: JAL, JALR, and BLTZAL or BGEZAL where it is taken.
     Call,
+    /// It goes to the address in register 31: `jr $31`.
     Return,
 }
 
 /// Where a transfer goes, and whether it calls or returns.
 #[derive(Clone, Copy, Debug, PartialEq, Eq)]
 pub struct Way {
+    /// The address of the unit behind the delay slot: the target, or where the branch isn't taken that of the instruction
+    /// behind the slot.
     pub next: u32,
+    /// Whether it calls or returns.
     pub kind: LinkKind,
 }
 
@@ -136,8 +142,8 @@ pub fn is_transfer(instr: &Instr) -> bool
     }
 }
 
-/// Decides where the transfer at `pc` goes and writes its link; none for an instruction that is
-/// no transfer.
+/// Decides where the transfer at `pc` goes and writes its link, which is the address behind its delay slot; none for an
+/// instruction that is no transfer (MIPS RISC Architecture, Kane and Heinrich 1992, appendix A: jumps and branches).
 pub fn decide(instr: &Instr, pc: u32, regs: &mut Regs) -> Option<Way>
     requires valid { IsValid instr.now }
     requires slot { pc + 8 < 2 ^ 32 }

@@ -4,7 +4,7 @@ use Rattle.std.proofs.lemmas.List.{length-replicate}
 use Rattle.std.proofs.lemmas.List.Elements.{All-append, All-cons, All-head, All-map, All-tail}
 use Rattle.std.proofs.lemmas.List.Kept.{AllPairs-cons}
 use Rattle.cache_config.specs.declared.profile.Profile.{Profile}
-use Rattle.cache_config.specs.Limits.{AreApart as AreSpansApart}
+use Rattle.cache_config.specs.Limits.{AreApart as AreSpansApart, area_above}
 use Rattle.elf_mips.specs.declared.image.Image.{Image}
 use Rattle.elf_mips.specs.declared.segment.Segment.{Segment}
 use Rattle.elf_mips.specs.Segments.{IsFilled}
@@ -64,7 +64,7 @@ profile_apart : (profile : Profile) → AllPairs AreApart (stack_of profile ∷ 
 profile_apart profile =
     AllPairs-cons AreApart (stack_of profile) (map area_of profile.regions)
     (All-map (AreApart (stack_of profile)) area_of profile.regions
-    (λ k d h. zeros_apart (profile.stack_top - profile.stack_size) (profile.stack_size + 64)
+    (λ k d h. zeros_apart (profile.stack_top - profile.stack_size) (profile.stack_size + area_above)
     (get_or profile.regions k d).start (get_or profile.regions k d).size (profile.off_stack k d h)))
     (AllPairs-map AreApart area_of profile.regions
     (λ i j d less h. zeros_apart (get_or profile.regions i d).start (get_or profile.regions i d).size
@@ -91,7 +91,7 @@ regions_of-some image profile =
     let some : 0 < (get_or image.segments k d).size = filled.some in
     omega arith))
     (All-cons (λ r. 0 < length r.bytes) (stack_of profile) (map area_of profile.regions)
-    (omega (arith, length-replicate {A = ℕ} (profile.stack_size + 64) 0))
+    (omega (arith, length-replicate {A = ℕ} (profile.stack_size + area_above) 0))
     (All-map (λ r. 0 < length r.bytes) area_of profile.regions (λ k d h.
     let some : 1 ≤ (get_or profile.regions k d).size = (get_or profile.regions k d).some in
     omega (arith, length-replicate {A = ℕ} (get_or profile.regions k d).size 0)))))

@@ -9,6 +9,7 @@ use Rattle.elf_mips.specs.Segments.{IsFilled, holds, is_code}
 use Rattle.elf_mips.specs.Segments.{code_at as image_code}
 use Rattle.mips_decode.specs.State.{Region, code_at, covers, holds_code, is_writable, word_at}
 use Rattle.mips_decode.specs.Start.{AreRegionsAtStart, IsRegionAtStart}
+use Rattle.cache_config.specs.Limits.{area_above}
 use Rattle.cache_config.specs.declared.profile.Profile.{Profile}
 use Rattle.cache_config.specs.declared.profile.Region.{Region as Area}
 use Rattle.elf_mips.specs.declared.image.Image.{Image}
@@ -76,7 +77,7 @@ pub code_at-regions_of : (address : ℕ) (image : Image) (profile : Profile) →
 code_at-regions_of address image profile filled =
     let stack = stack_of profile in
     let none : find (holds_code address) (stack ∷ map area_of profile.regions) ≡ None =
-    rw (zeros_no_code address (profile.stack_top - profile.stack_size) (profile.stack_size + 64))
+    rw (zeros_no_code address (profile.stack_top - profile.stack_size) (profile.stack_size + area_above))
     (areas_no_code address profile.regions) in
     ap (λ (region : Option Region). cond (address % 4 == 0) (option_map (λ (r : Region). word_at (address - r.start) r.bytes) region) None)
     (find-front address (map region_of image.segments) (stack ∷ map area_of profile.regions) none)

@@ -1,5 +1,5 @@
 -- The lemmas of this crate.
-pub mod ClashLemmas
+pub mod LeastLemmas
 pub mod PlaceLemmas
 pub mod IndexLemmas
 pub mod ApartLemmas

@@ -3,7 +3,7 @@ use Rattle.std.specs.Prelude.{◌≡◌, ℕ, ◌+◌, ◌-◌, ◌<◌, Bool, �
 use Rattle.std.specs.List.{list_any}
 use Rattle.cache_config.specs.declared.profile.Profile.{Profile}
 use Rattle.cache_config.specs.declared.profile.Region.{Region as Area}
-use Rattle.cache_config.specs.Limits.{AreApart as AreSpansApart}
+use Rattle.cache_config.specs.Limits.{AreApart as AreSpansApart, area_above}
 use Rattle.elf_mips.specs.declared.image.Image.{Image}
 use Rattle.elf_mips.specs.declared.segment.Segment.{Segment}
 use Rattle.mips_decode.specs.State.{Region, covers, is_writable, return_address}
@@ -19,9 +19,9 @@ region_of segment = record { start = segment.address; flags = segment.flags; byt
 abbrev pub zeros_at : (start size : ℕ) → Region
 zeros_at start size = record { start = start; flags = 2; bytes = replicate size 0 }
 
--- The stack lies below its top, with the caller's area for arguments, 64 bytes, above it.
+-- The stack lies below its top, with the caller's area for arguments above it.
 abbrev pub stack_of : Profile → Region
-stack_of profile = zeros_at (profile.stack_top - profile.stack_size) (profile.stack_size + 64)
+stack_of profile = zeros_at (profile.stack_top - profile.stack_size) (profile.stack_size + area_above)
 
 abbrev pub area_of : Area → Region
 area_of area = zeros_at area.start area.size

@@ -1,6 +1,7 @@
 -- What the contracts of this crate cite.
 pub mod Region
 pub mod Image
+pub mod Clash
 pub mod Index
 pub mod Places
 pub mod Passing

@@ -1,70 +1,63 @@
-//! Whether a program's segments lie apart from the memory that its profile gives it.
+//! The least address that a loaded segment shares with the memory that a profile gives.
 
-ghost use Rattle.std.specs.Prelude.{◌≡◌, ◌+◌, All, length};
-ghost use Rattle.std.specs.Bool.{OnFalse, OnTrue};
-ghost use Rattle.cache_config.specs.Limits.{AreApart as AreSpansApart};
-ghost use Rattle.mips_machine.specs.Image.{AreApart, HasNoClash, IsOff, area_of, region_of, zeros_at};
+ghost use Rattle.std.specs.Prelude.{◌≡◌, ◌+◌, IfNone, IfSome, length};
+ghost use Rattle.mips_machine.specs.Image.{HasNoClash, region_of, zeros_at};
+ghost use Rattle.mips_machine.specs.Clash.{FindsLeast, IsClash, IsShared, IsSharedBy, given_regions, lesser_of};
 
-use cache_config::{Profile, Region};
+use cache_config::{AREA_ABOVE, Profile, Region};
 use elf_mips::{Image, Segment};
 
-/// Whether an address lies in both spans, each given by its start and its size.
-fn do_meet(start: u32, size: u32, other: u32, other_size: u32) -> bool
-    ensures apart { OnFalse result (AreSpansApart start size other other_size) }
-    ensures meet { OnTrue result (AreSpansApart start size other other_size → ⊥) }
+/// The lesser of two addresses.
+fn lesser_of(address: Option<u32>, other: Option<u32>) -> Option<u32>
+    ensures { result ≡ lesser_of address other }
 {
-    let end = u64::from(start) + u64::from(size);
-    let other_end = u64::from(other) + u64::from(other_size);
-    u64::from(start.max(other)) < end.min(other_end)
-}
-
-/// Whether an address lies in the segment and in the region of zeros.
-fn meets(segment: &Segment, start: u32, size: u32) -> bool
-    requires { length segment.now.bytes ≡ segment.now.size }
-    ensures apart { OnFalse result (AreApart (region_of segment.now) (zeros_at start size)) }
-    ensures meet { OnTrue result (AreApart (region_of segment.now) (zeros_at start size) → ⊥) }
-{
-    do_meet(segment.address, segment.size, start, size)
-}
-
-/// Whether an address lies in the segment and in a region of the profile.
-fn meets_area(segment: &Segment, areas: &[Region]) -> bool
-    requires { length segment.now.bytes ≡ segment.now.size }
-    ensures apart { OnFalse result
-        (All (λ area. AreApart (region_of segment.now) (area_of area)) areas.now) }
-    ensures meet { OnTrue result
-        (All (λ area. AreApart (region_of segment.now) (area_of area)) areas.now → ⊥) }
-{
-    for area in areas {
-        if meets(segment, area.start, area.size) {
-            return true;
-        }
+    match (address, other) {
+        (None, _) => other,
+        (Some(_), None) => address,
+        (Some(address), Some(other)) => Some(address.min(other)),
     }
-    false
 }
 
-/// Whether an address lies in the segment and in the stack or a region of the profile.
-fn meets_memory(segment: &Segment, profile: &Profile) -> bool
+/// The least address that lies in the segment and in the span.
+fn shared_with(segment: &Segment, start: u32, size: u32) -> Option<u32>
     requires { length segment.now.bytes ≡ segment.now.size }
-    ensures apart { OnFalse result (IsOff profile.now segment.now) }
-    ensures meet { OnTrue result (IsOff profile.now segment.now → ⊥) }
+    ensures { FindsLeast (IsShared (region_of segment.now) (zeros_at start size)) result }
+{
+    let first = segment.address.max(start);
+    let end = u64::from(segment.address) + u64::from(segment.size);
+    let other_end = u64::from(start) + u64::from(size);
+    if u64::from(first) < end.min(other_end) {
+        Some(first)
+    } else {
+        None
+    }
+}
+
+/// The least address that lies in the segment, and in the stack or a region of the profile.
+fn shared_by(segment: &Segment, profile: &Profile) -> Option<u32>
+    requires { length segment.now.bytes ≡ segment.now.size }
+    ensures { FindsLeast (IsSharedBy (region_of segment.now) (given_regions profile.now)) result }
 {
     let stack = profile.stack_top - profile.stack_size;
-    meets(segment, stack, profile.stack_size + 64)
-        || meets_area(segment, profile.regions.as_slice())
+    let mut least = shared_with(segment, stack, profile.stack_size + AREA_ABOVE as u32);
+    for area in profile.regions.as_slice() {
+        least = lesser_of(least, shared_with(segment, area.start, area.size));
+    }
+    least
 }
 
-/// Whether a loaded segment overlaps the stack or a region of the profile.
+/// The least address that a loaded segment shares with the stack or a region of the profile; none where all of them lie
+/// apart, as a machine's start asks. The stack has the area of its caller's arguments above its top.
 ///
-/// It is the test of what a machine's start asks. It takes no memory.
-pub fn has_clash(image: &Image, profile: &Profile) -> bool
-    ensures none { OnFalse result (HasNoClash image.now profile.now) }
-    ensures clash { OnTrue result (HasNoClash image.now profile.now → ⊥) }
+/// It takes no memory.
+pub fn clash_place(image: &Image, profile: &Profile) -> Option<u32>
+    ensures least { FindsLeast (IsClash image.now profile.now) result }
+    ensures apart { IfNone result (HasNoClash image.now profile.now) }
+    ensures clash { IfSome result (λ address. HasNoClash image.now profile.now → ⊥) }
 {
+    let mut least = None;
     for segment in image.segments.as_slice() {
-        if meets_memory(segment, profile) {
-            return true;
-        }
+        least = lesser_of(least, shared_by(segment, profile));
     }
-    false
+    least
 }

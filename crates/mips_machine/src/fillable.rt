@@ -6,7 +6,7 @@ ghost use Rattle.std.specs.List.{list_any};
 ghost use Rattle.mips_machine.specs.Image.{IsFillable, area_of, region_of, regions_of, stack_of, takes_fill, zeros_at};
 
 use crate::fill::Fill;
-use cache_config::{Profile, Region};
+use cache_config::{AREA_ABOVE, Profile, Region};
 use elf_mips::{Image, Segment};
 
 /// Whether all bytes of a fill lie among so many bytes from a start on.
@@ -62,7 +62,8 @@ fn profile_takes(profile: &Profile, fill: &Fill) -> bool
         || list_any (takes_fill fill.now) (map area_of profile.now.regions)) }
 {
     let stack = profile.stack_top - profile.stack_size;
-    zeros_take(stack, profile.stack_size + 64, fill) || areas_take(profile.regions.as_slice(), fill)
+    zeros_take(stack, profile.stack_size + AREA_ABOVE as u32, fill)
+        || areas_take(profile.regions.as_slice(), fill)
 }
 
 /// Whether the bytes of a fill, where it has some, lie in one region that can be written.

@@ -18,7 +18,7 @@ mod tests;
 mod unit;
 
 pub use caches::Tally;
-pub use clash::has_clash;
+pub use clash::clash_place;
 pub use fill::Fill;
 pub use fillable::are_fillable;
 pub use machine::Machine;

@@ -18,12 +18,9 @@ use crate::unit::{execute, fetch};
 use cache_config::{Cycles, Profile};
 use elf_mips::Image;
 use lru_concrete::Caches;
-use mips_decode::{Instr, Reg, Regs, Touched, TrapKind};
+use mips_decode::{Instr, RETURN_ADDRESS, Reg, Regs, Touched, TrapKind};
 use std::alloc::{AllocError, Global};
 use std::marker::Model;
-
-/// The place of return: the entry has returned when the next unit would be here.
-const RETURN_ADDRESS: u32 = 0xFFFF_FFF0;
 
 /// A program's registers, program counter, memory and caches, with the cycles since its start.
 #[derive(Debug, Drop)]
@@ -120,6 +117,10 @@ impl Machine {
     /// be written; a fill without bytes may stand anywhere. Registers 0, 28, 29 and 31 are set (zero, the
     /// global pointer where the profile has one, the stack's top, the place of return); the others are
     /// the given ones. The caches are the profile's and hold what they hold; none of them was visited yet.
+    ///
+    /// It fails only for want of memory. `clash_place` and `are_fillable` test what it asks of the image and of the fills,
+    /// `Caches::new` and `Caches::empty` make caches. The registers are as the System V ABI, MIPS processor
+    /// supplement, has them where a program begins.
     pub fn start(
         alloc: Global,
         image: &Image,

@@ -12,7 +12,7 @@ ghost use Rattle.mips_machine.specs.Places.{IsOnlyPlace, StandsAt};
 use crate::fill::Fill;
 use crate::index::index_of;
 use crate::region::Region;
-use cache_config::Profile;
+use cache_config::{AREA_ABOVE, Profile};
 use elf_mips::{Image, Start, last_start};
 use mips_decode::{LoadOp, StoreOp, Touched, TrapKind};
 use std::alloc::{AllocError, Global};
@@ -75,7 +75,7 @@ fn start_regions(alloc: Global, image: &Image, profile: &Profile) -> Result<Vec<
 {
     let mut regions = segment_regions(alloc, image)?;
     let stack = profile.stack_top - profile.stack_size;
-    regions.push(Region::zeros(alloc, stack, profile.stack_size + 64)?)?;
+    regions.push(Region::zeros(alloc, stack, profile.stack_size + AREA_ABOVE as u32)?)?;
     for area in profile.regions.as_slice() {
         regions.push(Region::zeros(alloc, area.start, area.size)?)?;
     }

@@ -1,6 +1,6 @@
 //! Small programs run whole, each kind of trap, the edges of memory, and what is put into it.
 
-use crate::{Fill, Machine, Outcome, Regs, Touched, TrapKind, are_fillable, has_clash};
+use crate::{Fill, Machine, Outcome, Regs, Touched, TrapKind, are_fillable, clash_place};
 use cache_config::Profile;
 use elf_mips::{Image, read_image};
 use lru_concrete::Caches;
@@ -80,7 +80,7 @@ pub(crate) fn machine_under(
     fills: &[Fill],
 ) -> Result<Machine, Fail> {
     let image = image_of(alloc, words)?;
-    if has_clash(&image, profile) {
+    if clash_place(&image, profile).is_some() {
         return Err("a clash".into());
     }
     if !are_fillable(&image, profile, fills) {

@@ -17,7 +17,7 @@ use Rattle.wcet_engine.specs.declared.refusal.RefusalKind.{RefusalKind}
 use Rattle.wcet_engine.specs.declared.refusal.RefusalKind.TheVariants.{Config, Elf, NoSymbol, RegionClash, Unbuilt}
 use Rattle.wcet_engine.specs.declared.refusal.Spot.{Spot}
 use Rattle.wcet_engine.specs.declared.refusal.Spot.TheVariants.{Number, Key}
-use Rattle.wcet_engine.specs.Clash.{IsClash, IsLeast}
+use Rattle.mips_machine.specs.Clash.{IsClash, IsLeast}
 use Rattle.wcet_engine.specs.FileFaults.{FaultOfCaches, FaultOfEntry, FaultOfMemory, FaultOfProgram, FaultOfTables, IsAnalysisFor, IsFirstFaultOf, IsUnbuilt, OfImage, OffendsOf, TellsFaultOf, entry_by, entry_of, file_layers, refused_of}
 use Rattle.wcet_engine.specs.Layers.{IsFirst}
 use Rattle.wcet_engine.specs.ProgramFaults.{IsAnalysisOf, IsFirstFaultIn, OffendsIn, TellsFaultIn}

@@ -4,7 +4,6 @@ pub mod FileFaultLemmas
 pub mod ConfigFaultLemmas
 pub mod ReadLemmas
 pub mod LayerLaws
-pub mod LeastLemmas
 pub mod NetBound
 pub mod ProgramFaultLemmas
 pub mod SameCosts

@@ -23,7 +23,7 @@ use Rattle.mips_decode.specs.declared.columns.CostClass.{CostClass}
 use Rattle.mips_decode.specs.declared.columns.CostClass.TheVariants as cost
 use Rattle.mips_machine.specs.Image.{area_of, region_of}
 use Rattle.toml.specs.Data.{Members, no_members}
-use Rattle.wcet_engine.specs.Clash.{IsClash, IsSharedBy, given_regions}
+use Rattle.mips_machine.specs.Clash.{IsClash, IsSharedBy, given_regions}
 use Rattle.wcet_engine.specs.Faults.{GivesProfile}
 use Rattle.wcet_engine.specs.FileFaults.{entry_by}
 use Rattle.wcet_engine.proofs.SameCosts.{HaveSameCosts}

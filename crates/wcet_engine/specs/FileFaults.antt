@@ -12,7 +12,7 @@ use Rattle.wcet_engine.specs.declared.analysis.Refused.{Refused}
 use Rattle.wcet_engine.specs.declared.analysis.Refused.TheVariants.{Fault, Memory}
 use Rattle.wcet_engine.specs.declared.refusal.RefusalKind.{RefusalKind}
 use Rattle.wcet_engine.specs.declared.refusal.RefusalKind.TheVariants.{Elf, NoSymbol, RegionClash, Unbuilt}
-use Rattle.wcet_engine.specs.Clash.{IsClash}
+use Rattle.mips_machine.specs.Clash.{IsClash}
 use Rattle.wcet_engine.specs.Layers.{AnyOf, IsFirst, Nested, OneKind}
 use Rattle.wcet_engine.specs.ProgramFaults.{IsAnalysisOf, OffendsIn}
 use Rattle.wcet_engine.specs.Refusals.{at_number, rank, says_at}

@@ -1,6 +1,5 @@
 pub mod Answers
 pub mod Certificates
-pub mod Clash
 pub mod Stages
 pub mod Faults
 pub mod FileFaults

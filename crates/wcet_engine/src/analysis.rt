@@ -3,13 +3,13 @@
 ghost use Rattle.std.specs.Prelude.{◌≡◌, ◌≤◌, length, IfOk, IfErr};
 ghost use Rattle.std.specs.Bool.{OnFalse, OnTrue};
 
-use crate::clash::clash_place;
 use crate::program::analyse_program;
 use crate::refusal::{ConfigKind, Refusal, RefusalKind};
 use cache_config::{ConfigFault, Profile};
 use elf_mips::{ElfFault, Image, read_image};
 use flow_net::Net;
 use ipet_program::Certificate;
+use mips_machine::clash_place;
 use std::alloc::{AllocError, Global};
 use unit_graph::CodeFault;
 

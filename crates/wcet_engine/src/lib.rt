@@ -4,7 +4,6 @@
 mod analysis;
 mod answer;
 mod certificate;
-mod clash;
 mod contents;
 mod program;
 mod refusal;

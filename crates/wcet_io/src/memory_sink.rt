@@ -39,7 +39,8 @@ impl Model for MemSink {
 impl MemSink {
     /// A sink that holds nothing, has room for `room` bytes and takes at most `step` bytes a call.
     ///
-    /// It fails at the calls whose numbers stand in `failing`.
+    /// Its calls fail where their numbers, from 1, stand in `failing`. `new` itself fails only for want of memory: it
+    /// reserves the room at once.
     pub fn new(
         alloc: Global,
         step: usize,

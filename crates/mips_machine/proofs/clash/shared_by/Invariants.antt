@@ -2,8 +2,8 @@
 use Rattle.std.proofs.Common.{◌∷◌, take}
 use Rattle.std.specs.Prelude.{map}
 use Rattle.mips_machine.specs.Image.{area_of, region_of, stack_of}
-use Rattle.wcet_engine.specs.Clash.{FindsLeast, IsSharedBy}
-use Rattle.wcet_engine.proofs.clash.shared_by.Given as goal
+use Rattle.mips_machine.specs.Clash.{FindsLeast, IsSharedBy}
+use Rattle.mips_machine.proofs.clash.shared_by.Given as goal
 
 abbrev pub invariant-loop-area : goal.invariant-loop-area
 invariant-loop-area l =

@@ -1,12 +1,14 @@
 -- The least address of two searches is the least of both.
-use Rattle.std.proofs.Common.{◌≡◌, ℕ, ◌<◌, ◌≤◌, ◌⊎◌, inl, inr, zero, suc, List, [], ◌∷◌, ◌++◌, min, Contains, Option, Some, None, refl, sym, subst, arith}
+use Rattle.std.proofs.Common.{◌≡◌, ℕ, ◌<◌, ◌≤◌, ◌⊎◌, inl, inr, zero, suc, List, [], ◌∷◌, ◌++◌, min, All, Contains, Option, Some, None, get_or, refl, sym, subst, arith}
 use Rattle.std.proofs.lemmas.Bool.{cases_lt}
-use Rattle.std.proofs.lemmas.List.Elements.{Contains-append_cases, Contains-append_left, Contains-append_right}
+use Rattle.std.proofs.lemmas.List.Elements.{All-contains, Contains-get_or, Contains-append_cases, Contains-append_left, Contains-append_right}
 use Rattle.cache_config.specs.declared.profile.Profile.{Profile}
 use Rattle.elf_mips.specs.declared.segment.Segment.{Segment}
 use Rattle.mips_decode.specs.State.{Region}
-use Rattle.mips_machine.specs.Image.{region_of}
-use Rattle.wcet_engine.specs.Clash.{FindsLeast, IsClashOf, IsLeast, IsShared, IsSharedBy, given_regions, lesser_of}
+use Rattle.std.specs.Prelude.{IfNone, IfSome}
+use Rattle.elf_mips.specs.declared.image.Image.{Image}
+use Rattle.mips_machine.specs.Image.{AreApart, HasNoClash, IsOff, region_of}
+use Rattle.mips_machine.specs.Clash.{FindsLeast, IsClash, IsClashOf, IsLeast, IsShared, IsSharedBy, given_regions, lesser_of}
 
 both : (P Q R : ℕ → Type 0) (a b : ℕ) → ((n : ℕ) → R n → P n ⊎ Q n) → ((n : ℕ) → P n → R n) → ((n : ℕ) → Q n → R n) →
     IsLeast P a → IsLeast Q b → IsLeast R (min a b)
@@ -117,3 +119,33 @@ pub finds-none : (Says : ℕ → Type 0) (found : Option ℕ) → ((address : �
     (address : ℕ) → Says address → ⊥
 finds-none Says None other none = none
 finds-none Says (Some address) other least = absurd (other address refl)
+
+-- Where no address is found, nothing clashes.
+pub found-apart : (image : Image) (profile : Profile) (found : Option ℕ) → FindsLeast (IsClash image profile) found →
+    IfNone found (HasNoClash image profile)
+found-apart image profile None none = λ k d h j e g address first second. none address (record {
+  segment = get_or image.segments k d;
+  loaded = Contains-get_or image.segments k d h;
+  shared = record {
+    other = get_or (given_regions profile) j e;
+    listed = Contains-get_or (given_regions profile) j e g;
+    shared = record {
+      first = record { from = first.0; below = first.1 };
+      second = record { from = second.0; below = second.1 };
+    };
+  };
+})
+found-apart image profile (Some address) least = tt
+
+-- Where one is found, something does.
+pub found-clash : (image : Image) (profile : Profile) (found : Option ℕ) → FindsLeast (IsClash image profile) found →
+    IfSome found (λ address. HasNoClash image profile → ⊥)
+found-clash image profile None none = tt
+found-clash image profile (Some address) least = λ off.
+    let clash = least.says in
+    let region : Region = region_of clash.segment in
+    let apart : All (AreApart region) (given_regions profile) =
+    All-contains (IsOff profile) image.segments clash.segment off clash.loaded in
+    All-contains (AreApart region) (given_regions profile) clash.shared.other apart clash.shared.listed address
+    (clash.shared.shared.first.from, clash.shared.shared.first.below)
+    (clash.shared.shared.second.from, clash.shared.shared.second.below)

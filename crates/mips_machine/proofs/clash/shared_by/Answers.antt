@@ -5,9 +5,9 @@ use Rattle.std.proofs.lemmas.List.{map-append, take_more, take_all}
 use Rattle.cache_config.specs.declared.profile.Region.{Region as Area}
 use Rattle.mips_decode.specs.State.{Region}
 use Rattle.mips_machine.specs.Image.{area_of, region_of, stack_of}
-use Rattle.wcet_engine.specs.Clash.{FindsLeast, IsSharedBy, lesser_of}
-use Rattle.wcet_engine.proofs.LeastLemmas.{shared-push}
-use Rattle.wcet_engine.proofs.clash.shared_by.Goals as goal
+use Rattle.mips_machine.specs.Clash.{FindsLeast, IsSharedBy, lesser_of}
+use Rattle.mips_machine.proofs.LeastLemmas.{shared-push}
+use Rattle.mips_machine.proofs.clash.shared_by.Goals as goal
 
 pub loop-area-preserved : goal.loop-area-preserved
 loop-area-preserved c =
