@@ -21,8 +21,8 @@ use wcet_io::List;
 
 /// A number of at most 9. Widening is the join.
 #[derive(Debug, Drop, PartialEq, Eq)]
-struct Most {
-    count: u32,
+pub struct Most {
+    pub count: u32,
 }
 
 impl Model for Most {
@@ -136,7 +136,7 @@ impl Transfer<Most> for AtLeastFour {
 }
 
 /// An arc between places, or from or to 0.
-fn arc(from: u32, to: u32) -> NetArc
+pub fn arc(from: u32, to: u32) -> NetArc
     ensures { result ≡ record { from = from; to = to } }
 {
     NetArc { from, to }
