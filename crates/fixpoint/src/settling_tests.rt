@@ -124,7 +124,12 @@ fn settles_to(alloc: Global, net: &Net, place: u32, counts: &[u32]) -> Result<bo
 /// What place 2 leaves comes to place 3 alone, and each place is taken once.
 #[test]
 fn a_chain_is_gone_through_once(rt: HostRuntime) -> Result<(), Fail> {
-    let net = net_of(rt.alloc(), &[0, 0, 0], &[(0, 1), (1, 2), (2, 3), (3, 0)], &[])?;
+    let net = net_of(
+        rt.alloc(),
+        &[0, 0, 0],
+        &[(0, 1), (1, 2), (2, 3), (3, 0)],
+        &[],
+    )?;
     assert!(rt; settles_to(rt.alloc(), &net, 2, &[1, 1, 4, 3])?);
     Ok(())
 }
@@ -157,7 +162,16 @@ fn a_loop_that_is_left_from_its_middle(rt: HostRuntime) -> Result<(), Fail> {
 /// whose rise goes through 2 and 3, which goes back to 2 in vain, and 4 again, and 5 at last.
 #[test]
 fn what_the_outer_loop_leaves_comes_to_the_inner_one(rt: HostRuntime) -> Result<(), Fail> {
-    let ends = [(0, 1), (1, 2), (2, 3), (3, 2), (3, 4), (4, 1), (4, 5), (5, 0)];
+    let ends = [
+        (0, 1),
+        (1, 2),
+        (2, 3),
+        (3, 2),
+        (3, 4),
+        (4, 1),
+        (4, 5),
+        (5, 0),
+    ];
     let net = net_of(rt.alloc(), &[1, 2, 2, 1, 0], &ends, &[(1, 0), (2, 1)])?;
     assert!(rt; settles_to(rt.alloc(), &net, 4, &[4, 4, 4, 4, 4, 9])?);
     assert!(rt; settles_to(rt.alloc(), &net, 5, &[1, 1, 1, 1, 1, 5])?);

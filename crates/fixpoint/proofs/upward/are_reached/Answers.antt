@@ -12,7 +12,7 @@ mark_ends-requires-clause-ends c = λ k d inside.
     subst (λ (xs : List NetArc). All (λ (arc : NetArc). arc.to ≤ length c.args.net.now.places) xs) (sym c.as_slice-2.ensures)
     (each-all (λ (arc : NetArc). arc.to ≤ length c.args.net.now.places) c.args.net.now.arcs
     (λ number arc there.
-      (each-of (IsArc (length c.args.net.now.places)) c.args.net.now.arcs c.requires number arc there).to)) in
+    (each-of (IsArc (length c.args.net.now.places)) c.args.net.now.arcs c.requires number arc there).to)) in
     omega (
       arith,
       low k d inside,
