@@ -7,7 +7,7 @@ cd "$(dirname "$0")/.."
 program=crates/fixpoint_bench/out/fixpoint_bench
 [ -x "$program" ] || (cd crates/fixpoint_bench && rt run <stdin >/dev/null)
 python3 - "$program" <<'PYTHON'
-"""Runs each shape at each size nine times, and prints the median."""
+"""Runs each shape at each size twenty-five times, and prints the least time and the median."""
 import statistics
 import subprocess
 import sys
@@ -23,10 +23,10 @@ for shape, (size, steps) in UNIT.items():
         last = (parts * size - 10) // 16 * 16 + 9
         wanted = f"{shape} {places}: {parts * steps} steps, {last} before the last place\n"
         seconds = []
-        for _turn in range(9):
+        for _turn in range(25):
             start = time.perf_counter()
             answer = subprocess.run([sys.argv[1]], input=f"{shape} {places}\n", capture_output=True, text=True, check=True).stdout
             seconds.append(time.perf_counter() - start)
         mark = "" if answer == wanted else f"  WANTED {wanted}"
-        print(f"{statistics.median(seconds):6.3f} s  {answer.strip()}{mark}")
+        print(f"{min(seconds):6.4f} s  {statistics.median(seconds):6.4f} s  {answer.strip()}{mark}")
 PYTHON
