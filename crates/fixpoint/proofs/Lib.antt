@@ -7,3 +7,4 @@ pub mod Running
 pub mod Endings
 pub mod Queuing
 pub mod OnLiteral
+pub mod UpwardNets

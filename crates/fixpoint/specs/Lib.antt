@@ -4,3 +4,4 @@ pub mod Coming
 pub mod Queues
 pub mod Solved
 pub mod Steps
+pub mod Upward

@@ -3,11 +3,15 @@
 #![tactic(auto)]
 
 mod going;
+#[cfg(test)]
+mod settling_tests;
 mod solving;
 mod table;
 #[cfg(test)]
 mod tests;
+mod upward;
 mod waiting;
 
 pub use solving::solve;
 pub use table::Table;
+pub use upward::is_upward;

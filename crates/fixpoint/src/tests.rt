@@ -6,6 +6,7 @@ ghost use Rattle.std.proofs.lemmas.Bool.Decides.{nat_tests};
 ghost use Rattle.domain_laws.specs.Plain.{plain_has, plain_lattice, plain_ranked, plain_widening};
 ghost use Rattle.domain_laws.specs.Shapes.Shape.{plain};
 ghost use Rattle.flow_net.proofs.OnNested.{two_loops};
+ghost use Rattle.flow_net.specs.Nested.{IsNested};
 ghost use Rattle.flow_net.specs.Numbers.{IsNumberOf, IsNumberOrZero};
 ghost use Rattle.flow_net.specs.Scopes.{HasScopes};
 ghost use Rattle.fixpoint.specs.Solved.{IsSolvable};
@@ -13,7 +14,9 @@ ghost use Rattle.fixpoint.specs.Solved.{IsSolvable};
 use crate::solve;
 use domain_laws::{Height, Lattice, Transfer, Widen};
 use flow_net::{Access, Context, LoopInst, Net, NetArc, Place, Role};
-use net_tables::{accesses_at, arcs_into, arcs_out, depths_of};
+use net_tables::{
+    accesses_at, arcs_entering, arcs_into, arcs_out, depths_of, loops_entered, scopes_left,
+};
 use std::alloc::{AllocError, Global};
 use std::marker::Model;
 use std::test::Fail;
@@ -21,8 +24,8 @@ use wcet_io::List;
 
 /// A number of at most 9. Widening is the join.
 #[derive(Debug, Drop, PartialEq, Eq)]
-struct Most {
-    count: u32,
+pub struct Most {
+    pub count: u32,
 }
 
 impl Model for Most {
@@ -136,7 +139,7 @@ impl Transfer<Most> for AtLeastFour {
 }
 
 /// An arc between places, or from or to 0.
-fn arc(from: u32, to: u32) -> NetArc
+pub fn arc(from: u32, to: u32) -> NetArc
     ensures { result ≡ record { from = from; to = to } }
 {
     NetArc { from, to }
@@ -197,6 +200,7 @@ fn loops(alloc: Global) -> Result<Net, AllocError>
 /// The same net, as the solver and the tables ask for it.
 fn nested_loops(alloc: Global) -> Result<Net, AllocError>
     ensures accesses { IfOk result (λ net. All (λ access. IsNumberOf net.places access.place) net.accesses) }
+    ensures nested { IfOk result IsNested }
     ensures solvable { IfOk result IsSolvable }
     ensures sizes { IfOk result (λ net. (length net.places ≡ 2) × (length net.arcs ≡ 5) × (length net.accesses ≡ 1)) }
     ensures starts { IfOk result (λ net. All (λ arc. IsNumberOrZero net.places arc.from) net.arcs) }
@@ -247,5 +251,24 @@ fn places_have_the_numbers_of_their_arcs_and_accesses(rt: HostRuntime) -> Result
     assert_eq!(rt; of_place(&accesses, 1), Some([].as_slice()));
     assert_eq!(rt; of_place(&accesses, 2), Some([1].as_slice()));
     assert_eq!(rt; depths_of(rt.alloc(), &net)?.as_slice(), [1, 2].as_slice());
+    Ok(())
+}
+
+/// Arcs 1 and 2 enter the loops, arc 3 goes from 2 to itself, arc 4 leaves the inner loop, and arc 5 all.
+#[test]
+fn arcs_have_the_scopes_that_they_enter_and_leave(rt: HostRuntime) -> Result<(), Fail> {
+    let net = nested_loops(rt.alloc())?;
+    let entered = loops_entered(rt.alloc(), &net)?;
+    assert_eq!(rt; entered.as_slice(), [1, 2, 0, 0, 0].as_slice());
+    let entering = arcs_entering(rt.alloc(), &net)?;
+    assert_eq!(rt; of_place(&entering, 0), Some([1].as_slice()));
+    assert_eq!(rt; of_place(&entering, 1), Some([1].as_slice()));
+    assert_eq!(rt; of_place(&entering, 2), Some([2].as_slice()));
+    let left = scopes_left(rt.alloc(), &net)?;
+    assert_eq!(rt; of_place(&left, 0), Some([].as_slice()));
+    assert_eq!(rt; of_place(&left, 1), Some([].as_slice()));
+    assert_eq!(rt; of_place(&left, 2), Some([].as_slice()));
+    assert_eq!(rt; of_place(&left, 3), Some([2].as_slice()));
+    assert_eq!(rt; of_place(&left, 4), Some([1, 0].as_slice()));
     Ok(())
 }

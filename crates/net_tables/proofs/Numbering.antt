@@ -103,12 +103,12 @@ numbers_push key from (other ∷ others) last =
     pass false e = e
 
 -- What stands in a list after a write.
-slice_get-set_same : {X : Type 0} (xs : List X) (i : ℕ) (x : X) → i < length xs → slice_get (slice_set xs i x) i ≡ Some x
+pub slice_get-set_same : {X : Type 0} (xs : List X) (i : ℕ) (x : X) → i < length xs → slice_get (slice_set xs i x) i ≡ Some x
 slice_get-set_same [] i x inside = absurd (omega (arith, inside))
 slice_get-set_same (y ∷ ys) zero x inside = refl
 slice_get-set_same (y ∷ ys) (suc i) x inside = slice_get-set_same ys i x (omega (arith, inside))
 
-slice_get-set_other : {X : Type 0} (xs : List X) (i k : ℕ) (x : X) → (i ≡ k → ⊥) →
+pub slice_get-set_other : {X : Type 0} (xs : List X) (i k : ℕ) (x : X) → (i ≡ k → ⊥) →
     slice_get (slice_set xs i x) k ≡ slice_get xs k
 slice_get-set_other [] i k x ne = refl
 slice_get-set_other (y ∷ ys) zero zero x ne = absurd (ne refl)

@@ -1,5 +1,6 @@
 -- The net that is made is the one that flow_net writes out: it is nested, and it can be solved.
 use Rattle.std.proofs.Common.{◌≡◌, All, length, refl, sym, subst}
+use Rattle.flow_net.specs.Nested.{IsNested}
 use Rattle.flow_net.specs.Numbers.{IsNumberOf, IsNumberOrZero}
 use Rattle.flow_net.specs.Scopes.{HasScopes}
 use Rattle.flow_net.specs.declared.net.Net.{Net}
@@ -12,6 +13,9 @@ pub returns-clause-accesses : goal.returns-clause-accesses
 returns-clause-accesses c =
     subst (λ (net : Net). All (λ access. IsNumberOf net.places access.place) net.accesses) (sym c.in_ok-net.ensures)
     nested_two_loops.numbers.accesses
+
+pub returns-clause-nested : goal.returns-clause-nested
+returns-clause-nested c = subst IsNested (sym c.in_ok-net.ensures) nested_two_loops
 
 pub returns-clause-solvable : goal.returns-clause-solvable
 returns-clause-solvable c = subst IsSolvable (sym c.in_ok-net.ensures) solvable_two_loops
