@@ -6,6 +6,7 @@ pub mod ReadLemmas
 pub mod LayerLaws
 pub mod LeastLemmas
 pub mod NetBound
+pub mod WalkRuns
 pub mod ProgramFaultLemmas
 pub mod SameCosts
 pub mod SameFiles
