@@ -5,6 +5,7 @@ pub mod ConfigFaultLemmas
 pub mod ReadLemmas
 pub mod LayerLaws
 pub mod NetBound
+pub mod WalkRuns
 pub mod ProgramFaultLemmas
 pub mod SameCosts
 pub mod SameFiles

@@ -16,6 +16,7 @@ use Rattle.wcet_engine.specs.ProgramFaults.{IsAnalysisOf, IsLargeNet, IsTooLarge
 use Rattle.wcet_engine.specs.Stages.{Certifies, IsNetOf}
 use Rattle.wcet_engine.proofs.CodeKinds.{code-faultless}
 use Rattle.wcet_engine.proofs.ProgramFaultLemmas.{free-program}
+use Rattle.wcet_engine.proofs.WalkRuns.{walks-net}
 use Rattle.wcet_engine.proofs.NetBound.{counted-bounds, counts-runs}
 
 -- The sizes that are told are above the limits.
@@ -69,6 +70,7 @@ is-analysed image profile entry graphs nests net certificate built program is ce
           (not-many image entry graphs nests net program is) (fitting image profile entry net certificate is certifies);
       is_net = is.is_net;
       paths = is.paths;
+      walks = walks-net image profile entry net is.paths;
       program = certifies.program;
       is_program = certifies.is;
       valid = certifies.valid;

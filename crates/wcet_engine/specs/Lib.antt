@@ -8,6 +8,7 @@ pub mod Outcomes
 pub mod ProgramFaults
 pub mod Refusals
 pub mod Runs
+pub mod Walks
 pub mod Headline
 pub mod Layers
 pub mod Texts

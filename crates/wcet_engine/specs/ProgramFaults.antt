@@ -25,6 +25,7 @@ use Rattle.wcet_engine.specs.declared.refusal.RefusalKind.TheVariants.{Code, Nev
 use Rattle.wcet_engine.specs.Certificates.{IsOneLeaf}
 use Rattle.wcet_engine.specs.Layers.{AnyOf, IsFirst, Nested, OneKind}
 use Rattle.wcet_engine.specs.Refusals.{at_number, rank, says_at}
+use Rattle.wcet_engine.specs.Walks.{WalksNet}
 use Rattle.wcet_engine.specs.Runs.{CountsRuns, HasPaths}
 use Rattle.wcet_engine.specs.Headline.{Bounds}
 
@@ -89,6 +90,8 @@ pub record IsAnalysisOf (image : Image) (profile : Profile) (entry : ℕ) (analy
   -- Its net is the program's, and the runs go along paths of it.
   pub is_net : IsNet image entry analysis.net
   pub paths : HasPaths image entry analysis.net
+  -- Each run that the headline speaks of is a walk of the net that moves the machine's caches, up to any state.
+  pub walks : WalksNet image profile entry analysis.net
   -- The net's integer program under the profile.
   pub program : Program
   pub is_program : IsProgramOf analysis.net (place_price profile image analysis.net) program
