@@ -40,7 +40,7 @@ use Rattle.net_model.specs.Targets.{targets_at, unit_at}
 use Rattle.net_model.proofs.Contents.{IsFetched-unit, unit-content}
 use Rattle.net_model.proofs.Steps.{IsDoneBy, IsWayOn, UnitGoes, last_touch, slot_list, unit-goes}
 use Rattle.net_model.proofs.UnitAccesses.{AreMade, unit-made}
-use Rattle.net_model.proofs.Zero.{IsZero}
+use Rattle.net_model.proofs.Zero.{IsLow, IsZero}
 
 place-positive : (net : Net) (n context address : ℕ) → IsPlaceOf net n context address → 0 < n
 place-positive net n context address at = (item_at-within net.places n at.place at.there).from_one
@@ -243,6 +243,7 @@ pub record IsDoneAt (image : Image) (net : Net) (did : RunUnit) (number : ℕ) :
   pub step : (did.step ≡ Went done next) ⊎ (did.step ≡ Returned done next)
   pub instructions : done.instructions ≡ unit.instr ∷ slot_list unit.slot
   pub touches : option_map (λ (a : Touched). a.store) done.access ≡ last_touch unit.instr unit.slot
+  pub low : IsLow done.access
 
 -- A path from the place where a run stands, with the moments along it and the places of the units that are done.
 pub record IsAlong (image : Image) (net : Net) (code : ℕ → Option ℕ) (open_calls : List Call) (s : State) (states : List State) (number : ℕ) : Type 0 where
@@ -339,6 +340,7 @@ module _ (image : Image) (entry : ℕ) (net : Net) (is : IsNet image entry net) 
             step = went-by did.done t later step did.ends;
             instructions = did.instructions;
             touches = did.touches;
+            low = did.low;
           },
           rest.done,
         );

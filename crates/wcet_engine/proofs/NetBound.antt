@@ -48,7 +48,7 @@ use Rattle.wcet_engine.proofs.Uncached.{step_cycles, uncached-run, unit_cycles}
 use Rattle.wcet_engine.proofs.UnitCosts.{uncached_cost, unit-cycles}
 
 -- The executable words of a start are the image's.
-code-of_start : (image : Image) (profile : Profile) (entry : ℕ) (m : Machine) → All IsFilled image.segments →
+pub code-of_start : (image : Image) (profile : Profile) (entry : ℕ) (m : Machine) → All IsFilled image.segments →
     IsMachineStart image profile entry m → code_at m.values.regions ≡ image_code image.segments
 code-of_start image profile entry m filled start = fun_ext (λ address.
     code_at-start (regions_of image profile) m.values.regions start.values.memory address
@@ -101,7 +101,7 @@ done-price profile image net did number done =
     let address = did.at.address in
     let fetched = IsFetched-unit image address done.unit (unit-content image address done.unit done.stands) in
     let cycles = unit-cycles (image_code image.segments) costs number address done.unit done.done fetched.slot
-    done.instructions done.touches in
+    done.instructions done.touches done.low in
     let price : place_price profile image net number ≡ unit_cost costs number done.unit address =
     ap (price_at profile image number) done.at.at.there
     ∙ ap (λ (a : ℕ). content_cost costs number (content_at image a) a) done.at.at.same

@@ -18,7 +18,7 @@ use Rattle.net_model.specs.Accesses.{unit_accesses}
 use Rattle.net_model.specs.declared.unit.CodeUnit.{CodeUnit}
 use Rattle.net_model.specs.Units.{is_transfer}
 use Rattle.net_model.proofs.Contents.{HasSlot}
-use Rattle.net_model.proofs.Zero.{touch}
+use Rattle.net_model.proofs.Zero.{IsLow, touch}
 use Rattle.net_model.proofs.Steps.{last_touch, slot_list}
 use Rattle.net_model.proofs.UnitAccesses.{Matches, unit-matches}
 use Rattle.ipet_program.specs.Costs.{first_stage, first_stages, own_cost, slot_cost, store_latency, unit_cost}
@@ -143,11 +143,11 @@ matched-stages costs place (made ∷ more) (access ∷ own) zip =
 -- A unit that was done takes the cycles of its place.
 pub unit-cycles : (code : ℕ → Option ℕ) (costs : Costs) (number address : ℕ) (unit : CodeUnit) (done : Done) →
     HasSlot code address unit.instr unit.slot → done.instructions ≡ unit.instr ∷ slot_list unit.slot →
-    option_map (λ (a : Touched). a.store) done.access ≡ last_touch unit.instr unit.slot →
+    option_map (λ (a : Touched). a.store) done.access ≡ last_touch unit.instr unit.slot → IsLow done.access →
     uncached_cost costs address done ≡ unit_cost costs number unit address
-unit-cycles code costs number address unit done has instructions touches =
+unit-cycles code costs number address unit done has instructions touches low =
     let own = own-done code costs address unit done has instructions touches in
-    let zip = unit-matches code number address unit done has instructions touches in
+    let zip = unit-matches code number address unit done has instructions touches low in
     let all = all-stages costs (accesses_of address done) in
     let matched = matched-stages costs number (filter goes (accesses_of address done)) (unit_accesses number unit address) zip in
     omega (arith, own, all, matched)

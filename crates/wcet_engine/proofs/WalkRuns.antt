@@ -1,5 +1,5 @@
 -- Each run that the headline speaks of is a walk of the net that moves the machine's caches.
-use Rattle.std.proofs.Common.{◌≡◌, ℕ, ◌+◌, Bool, true, false, List, [], ◌∷◌, ◌++◌, Option, None, Some, All, refl, ap, ap₂, sym, subst, ◌∙◌, arith}
+use Rattle.std.proofs.Common.{◌≡◌, ℕ, ◌+◌, Bool, true, false, cond, List, [], ◌∷◌, ◌++◌, Option, None, Some, All, refl, ap, ap₂, sym, subst, ◌∙◌, arith}
 use Rattle.std.specs.Prelude.{sum_by}
 use Rattle.std.specs.List.{AllZip, filter}
 use Rattle.std.proofs.lemmas.List.Sums.{sum_by-append, sum_by-cons}
@@ -111,12 +111,21 @@ module _ (net : Net) (place : ℕ) (levels : List Level) (memory : ℕ) where
       AllZip (IsMadeBy net place) (filter goes accesses) made → ArePassed net levels memory accesses made caches
   made-passed [] [] caches same behind zip = record { cost = refl; held = refl; kept = same; behind = behind }
   made-passed [] (moment ∷ made) caches same behind zip = absurd zip
-  made-passed (access ∷ accesses) made caches same behind zip = by (goes access) refl where
-    by : (b : Bool) → goes access ≡ b → ArePassed net levels memory (access ∷ accesses) made caches
-    by false is =
+  made-passed (access ∷ accesses) made caches same behind zip =
+      by (goes access) refl (λ rest next kept later. made-passed accesses rest next kept later) where
+    filtered : (b : Bool) → goes access ≡ b →
+        AllZip (IsMadeBy net place) (cond b (access ∷ filter goes accesses) (filter goes accesses)) made
+    filtered b is =
+        subst (λ (test : Bool). AllZip (IsMadeBy net place) (cond test (access ∷ filter goes accesses) (filter goes accesses)) made) is zip
+
+    by : (b : Bool) → goes access ≡ b →
+        ((rest : List Moment) (next : Tallied) → levels_of next.held ≡ levels → next.memory ≡ memory →
+        AllZip (IsMadeBy net place) (filter goes accesses) rest → ArePassed net levels memory accesses rest next) →
+        ArePassed net levels memory (access ∷ accesses) made caches
+    by false is on =
         let side : side_of access.kind ≡ None = no-side access.kind is in
-        let zip' : AllZip (IsMadeBy net place) (filter goes accesses) made = rw (← is) zip in
-        let rest = made-passed accesses made caches same behind zip' in
+        let zip' : AllZip (IsMadeBy net place) (filter goes accesses) made = filtered false is in
+        let rest = on made caches same behind zip' in
         let stay : passed (side_of access.kind) access.address caches ≡ caches =
         ap (λ (s : Option Side). passed s access.address caches) side in
         let nothing : visit_cost (side_of access.kind) access.address caches ≡ 0 =
@@ -130,7 +139,7 @@ module _ (net : Net) (place : ℕ) (levels : List Level) (memory : ℕ) where
           kept = ap (λ (c : Tallied). levels_of (passed_all accesses c).held) stay ∙ rest.kept;
           behind = ap (λ (c : Tallied). (passed_all accesses c).memory) stay ∙ rest.behind;
         }
-    by true is = numbered made (rw (← is) zip) where
+    by true is on = numbered made (filtered true is) where
       numbered : (made : List Moment) → AllZip (IsMadeBy net place) (access ∷ filter goes accesses) made →
           ArePassed net levels memory (access ∷ accesses) made caches
       numbered [] zip = absurd zip
@@ -142,7 +151,7 @@ module _ (net : Net) (place : ℕ) (levels : List Level) (memory : ℕ) where
           let side : side_at net number ≡ side_of access.kind =
           ap (side_at net) named ∙ ap side_by made_by.there ∙ ap side_of made_by.kind in
           one-passed access accesses number address seen hit rest caches same behind side there
-          (made-passed accesses rest (passed (side_of access.kind) access.address caches)
+          (on rest (passed (side_of access.kind) access.address caches)
           (levels-passed (side_of access.kind) access.address caches ∙ same)
           (memory-passed (side_of access.kind) access.address caches ∙ behind) zip.1)
 
