@@ -1,10 +1,10 @@
 -- Nets in which each place is reached by an arc from a lesser one can be solved.
-use Rattle.std.proofs.Common.{◌≡◌, ℕ, zero, suc, ◌+◌, ◌-◌, ◌<◌, ◌≤◌, ◌^◌, Bool, true, false, nat_lt, if◌then◌else◌, List, [], ◌∷◌, ◌++◌, length, get_or, All, Some, slice_set, refl, sym, ◌∙◌, ◌⊎◌, subst, ap, inl, inr, arith}
+use Rattle.std.proofs.Common.{◌≡◌, ℕ, zero, suc, ◌+◌, ◌-◌, ◌<◌, ◌≤◌, ◌^◌, Bool, true, false, nat_lt, if◌then◌else◌, List, [], ◌∷◌, ◌++◌, length, get_or, All, Some, slice_set, refl, sym, ◌∙◌, subst, ap, inl, inr, arith}
 use Rattle.std.specs.Bool.{OnTrue}
 use Rattle.std.proofs.lemmas.Bool.{cases_Bool, cases_eq}
 use Rattle.std.proofs.lemmas.Bool.Decides.{nat_tests}
 use Rattle.std.proofs.lemmas.List.{length-set}
-use Rattle.flow_net.specs.Numbers.{IsNumberOf, IsNumberOrZero, item_at}
+use Rattle.flow_net.specs.Numbers.{IsNumberOrZero, item_at}
 use Rattle.flow_net.specs.Paths.{IsPath, IsRunPath}
 use Rattle.flow_net.specs.Scopes.{HasScopes}
 use Rattle.flow_net.specs.declared.net.LoopInst.{LoopInst}

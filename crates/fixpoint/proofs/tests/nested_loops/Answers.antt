@@ -25,6 +25,9 @@ returns-clause-sizes c =
     subst (λ (net : Net). (length net.places ≡ 2) × (length net.arcs ≡ 5) × (length net.accesses ≡ 1)) (sym c.in_ok-net.ensures)
     (refl, refl, refl)
 
+pub returns-clause-loops : goal.returns-clause-loops
+returns-clause-loops c = subst (λ (net : Net). length net.loops ≡ 2) (sym c.in_ok-net.ensures) refl
+
 pub returns-clause-starts : goal.returns-clause-starts
 returns-clause-starts c =
     subst (λ (net : Net). All (λ arc. IsNumberOrZero net.places arc.from) net.arcs) (sym c.in_ok-net.ensures)

@@ -1,5 +1,5 @@
 -- There is a mark for each place and for 0.
-use Rattle.std.proofs.Common.{◌≡◌, ◌≤◌, ◌+◌, ◌∙◌, All, List, Bool, ap, arith, false, length, get_or, subst, sym}
+use Rattle.std.proofs.Common.{◌≤◌, All, List, Bool, ap, arith, length, subst, sym}
 use Rattle.flow_net.specs.declared.net.NetArc.{NetArc}
 use Rattle.flow_net.specs.declared.net.Place.{Place}
 use Rattle.fixpoint.specs.Upward.{IsArc}

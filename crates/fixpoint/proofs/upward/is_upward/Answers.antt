@@ -1,5 +1,5 @@
 -- All that is looked at makes the net solvable.
-use Rattle.std.proofs.Common.{◌≡◌, ◌<◌, ◌≤◌, ℕ, List, length, subst}
+use Rattle.std.proofs.Common.{◌<◌, ◌≤◌, ℕ, List, length, subst}
 use Rattle.std.specs.Bool.{OnTrue}
 use Rattle.std.proofs.lemmas.Result.{IfOk-weaker}
 use Rattle.flow_net.specs.declared.net.NetArc.{NetArc}
