@@ -23,6 +23,17 @@ pub record HasLayout (image : Image) (entry : ℕ) (graphs : Graphs) (nests : Ne
   pub program : IsProgram image entry graphs nests
   pub layout_is : IsLayout image entry graphs.graphs layout
 
+-- They are those of some program; and what is said of each program that they are of.
+abbrev pub IsLayoutOf : Graphs → Nests → Layout → Type 0
+IsLayoutOf graphs nests layout = (image : Image) × (entry : ℕ) × HasLayout image entry graphs nests layout
+
+abbrev pub OfLayout : Graphs → Nests → Layout → (said : Image → ℕ → Type 0) → Type 0
+OfLayout graphs nests layout said = (image : Image) (entry : ℕ) → HasLayout image entry graphs nests layout → said image entry
+
+-- The same where the loops aren't at hand.
+abbrev pub IsLaidFor : Graphs → Layout → Type 0
+IsLaidFor graphs layout = (image : Image) × (entry : ℕ) × (nests : Nests) × HasLayout image entry graphs nests layout
+
 -- For each function the loops round its units.
 pub record AreRounds (graphs : List Graph) (nests : List (List Loop)) (done : ℕ) (rounds : List Rounds) : Type 0 where
   pub count : length rounds ≡ done
@@ -57,6 +68,19 @@ pub record HasRounds (image : Image) (entry : ℕ) (graphs : Graphs) (nests : Ne
   pub laid : HasLayout image entry graphs nests layout
   pub rounds_are : AreRounds graphs.graphs nests.nests (length graphs.graphs) rounds
   pub firsts_are : AreFirsts graphs.graphs nests.nests layout (length layout.contexts.keys) firsts
+
+-- They are those of some program, whatever its loops are; and what is said of each program that they are of.
+abbrev pub AreRoundsOf : Graphs → Nests → Layout → List Rounds → (firsts : List ℕ) → Type 0
+AreRoundsOf graphs nests layout rounds firsts =
+    (image : Image) × (entry : ℕ) × HasRounds image entry graphs nests layout rounds firsts
+
+abbrev pub AreRoundsFor : Graphs → Layout → List Rounds → (firsts : List ℕ) → Type 0
+AreRoundsFor graphs layout rounds firsts =
+    (image : Image) × (entry : ℕ) × (nests : Nests) × HasRounds image entry graphs nests layout rounds firsts
+
+abbrev pub OfRounds : Graphs → Layout → List Rounds → (firsts : List ℕ) → (said : Nests → Type 0) → Type 0
+OfRounds graphs layout rounds firsts said =
+    (image : Image) (entry : ℕ) (nests : Nests) → HasRounds image entry graphs nests layout rounds firsts → said nests
 
 -- The scope of what a loop of a context's function holds, or none of them: the loop's instance, or the scope round
 -- the context.

@@ -18,6 +18,13 @@ pub record HasGraphs (image : Image) (entry : ℕ) (graphs : Graphs) : Type 0 wh
   pub graphs_are : AreGraphs image entry graphs
   pub faultless : HasNoFault image entry
 
+-- They are the graphs of some program; and what is said of each program that has them.
+abbrev pub HaveProgram : Graphs → Type 0
+HaveProgram graphs = (image : Image) × (entry : ℕ) × HasGraphs image entry graphs
+
+abbrev pub OfGraphs : Graphs → (said : Image → ℕ → Type 0) → Type 0
+OfGraphs graphs said = (image : Image) (entry : ℕ) → HasGraphs image entry graphs → said image entry
+
 -- The node at a position of a list stands at the address.
 pub record HasNode (nodes : List Node) (address position : ℕ) : Type 0 where
   pub node : Node

@@ -17,6 +17,13 @@ pub record IsProgram (image : Image) (entry : ℕ) (graphs : Graphs) (nests : Ne
   pub nests_are : AreNests image graphs nests
   pub faultless : HasNoFault image entry
 
+-- They are those of some program; and what is said of each program that they are of.
+abbrev pub AreOfProgram : Graphs → Nests → Type 0
+AreOfProgram graphs nests = (image : Image) × (entry : ℕ) × IsProgram image entry graphs nests
+
+abbrev pub OfProgram : Graphs → Nests → (said : Image → ℕ → Type 0) → Type 0
+OfProgram graphs nests said = (image : Image) (entry : ℕ) → IsProgram image entry graphs nests → said image entry
+
 -- No unit that the entry function reaches returns.
 abbrev pub HasNoReturn : Image → ℕ → Type 0
 HasNoReturn image entry = CanReturn image entry → ⊥

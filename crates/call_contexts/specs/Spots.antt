@@ -15,6 +15,9 @@ pub record IsLaidProgram (image : Image) (entry : ℕ) (graphs : Graphs) (layout
 abbrev pub IsOfProgram : Graphs → Layout → Type 0
 IsOfProgram graphs layout = (image : Image) × (entry : ℕ) × IsLaidProgram image entry graphs layout
 
+abbrev pub OfLaid : Graphs → Layout → (said : Image → ℕ → Type 0) → Type 0
+OfLaid graphs layout said = (image : Image) (entry : ℕ) → IsLaidProgram image entry graphs layout → said image entry
+
 -- The number is that of the place of the unit at an address in a context.
 pub record IsNumberAt (graphs : List Graph) (layout : Layout) (context address number : ℕ) : Type 0 where
   pub position : ℕ

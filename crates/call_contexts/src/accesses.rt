@@ -1,14 +1,13 @@
 //! The accesses of a net's places.
 
 ghost use Rattle.std.specs.Prelude.{◌≡◌, ◌+◌, ◌<◌, ◌^◌, ◌++◌, ◌∷◌, [], ℕ, true, IfOk, OnOk, Option};
-ghost use Rattle.elf_mips.specs.declared.image.Image.{Image};
 ghost use Rattle.flow_net.specs.Numbers.{item_at};
 ghost use Rattle.flow_net.specs.declared.net.Place.{Place};
 ghost use Rattle.net_model.specs.Accesses.{accesses_from, load_access};
 ghost use Rattle.unit_graph.specs.declared.node.Unit.{Unit as Node};
 ghost use Rattle.call_contexts.specs.Accesses.{node_accesses, slot_access};
 ghost use Rattle.call_contexts.specs.Layout.{IsLaid, IsLaidOut, IsSpot};
-ghost use Rattle.call_contexts.specs.Spots.{IsLaidProgram, IsOfProgram};
+ghost use Rattle.call_contexts.specs.Spots.{IsOfProgram, OfLaid};
 
 use crate::layout::Layout;
 use crate::spots::unit_at;
@@ -70,8 +69,8 @@ pub fn accesses_of(
 ) -> Result<Vec<Access>, AllocError>
     requires program { IsOfProgram graphs.now layout.now }
     requires places { IsLaid graphs.now.graphs layout.now places.now }
-    ensures { IfOk result (λ accesses. (image : Image) (entry : ℕ) → IsLaidProgram image entry graphs.now layout.now →
-        accesses.items ≡ accesses_from image 1 places.now) }
+    ensures { IfOk result (λ accesses. OfLaid graphs.now layout.now (λ image entry.
+        accesses.items ≡ accesses_from image 1 places.now)) }
 {
     let mut accesses = Vec::new(alloc);
     for (index, place) in places.iter().enumerate() {

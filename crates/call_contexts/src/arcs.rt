@@ -94,7 +94,8 @@ fn targets_of(
     unit: &Unit,
 ) -> Result<Vec<u32>, AllocError>
     requires program { IsOfProgram graphs.now layout.now }
-    requires spot { (position : ℕ) × (number : ℕ) × IsSpot graphs.now.graphs layout.now context position unit.now number }
+    requires spot { (position : ℕ) × (number : ℕ)
+        × IsSpot graphs.now.graphs layout.now context position unit.now number }
     ensures { IfOk result (λ targets. AreTargets graphs.now.graphs layout.now context unit.now targets.items) }
 {
     let mut targets = Vec::new(alloc);

@@ -2,9 +2,8 @@
 
 ghost use Rattle.std.specs.Prelude.{◌≡◌, ℕ, ◌+◌, ◌<◌, AllPairs, Contains, Some, length, IfOk, IfSome};
 ghost use Rattle.std.specs.Bool.{OnFalse, OnTrue};
-ghost use Rattle.elf_mips.specs.declared.image.Image.{Image};
 ghost use Rattle.call_contexts.specs.Around.{AreNearest, AreOfFunction, AreOwn, AreRising, IsInner};
-ghost use Rattle.call_contexts.specs.Programs.{IsProgram};
+ghost use Rattle.call_contexts.specs.Programs.{AreOfProgram};
 
 use crate::index::position_of;
 use loop_nest::{Loop, Nests};
@@ -111,8 +110,9 @@ fn rounds_of(alloc: Global, units: &[Unit], loops: &[Loop]) -> Result<Rounds, Al
 
 /// For each function the loops round its units.
 pub fn all_rounds(alloc: Global, graphs: &Graphs, nests: &Nests) -> Result<Vec<Rounds>, AllocError>
-    requires { (image : Image) × (entry : ℕ) × IsProgram image entry graphs.now nests.now }
-    ensures { IfOk result (λ rounds. AreRounds graphs.now.graphs nests.now.nests (length graphs.now.graphs) rounds.items) }
+    requires { AreOfProgram graphs.now nests.now }
+    ensures { IfOk result (λ rounds.
+        AreRounds graphs.now.graphs nests.now.nests (length graphs.now.graphs) rounds.items) }
 {
     let graphs = graphs.graphs.as_slice();
     let nests = nests.nests.as_slice();

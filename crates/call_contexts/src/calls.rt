@@ -58,7 +58,8 @@ fn calls_of(alloc: Global, graphs: &[Graph], graph: &Graph) -> Result<List<Calle
 /// It takes a search of the graphs for each call.
 pub fn call_lists(alloc: Global, graphs: &[Graph]) -> Result<Vec<List<Called>>, AllocError>
     requires listed { AreListed graphs.now }
-    requires known { All (λ (graph : Graph). All (λ (unit : Node). All (IsKnown graphs.now) unit.calls) graph.units) graphs.now }
+    requires known { All (λ (graph : Graph). All (λ (unit : Node). All (IsKnown graphs.now) unit.calls) graph.units)
+        graphs.now }
     ensures { IfOk result (λ lists. AreCallLists graphs.now lists.items) }
 {
     let mut lists = Vec::new(alloc);

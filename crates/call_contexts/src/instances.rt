@@ -1,7 +1,6 @@
 //! The loop instances of a program's contexts.
 
 ghost use Rattle.std.specs.Prelude.{◌≡◌, ◌+◌, ◌^◌, ◌<◌, ◌≤◌, ℕ, suc, Contains, Some, length, slice_get, IfOk, OnOk};
-ghost use Rattle.elf_mips.specs.declared.image.Image.{Image};
 ghost use Rattle.net_model.specs.Instances.{HasInstances};
 ghost use Rattle.call_contexts.specs.Around.{AreNearest, AreOfFunction};
 
@@ -24,7 +23,7 @@ pub struct Instances {
     pub scopes: Vec<u32>,
 }
 
-ghost use Rattle.call_contexts.specs.Instances.{AddsInstances, AreInstances, HasRounds, HasScopes, IsInstanceBy, HasLayout};
+ghost use Rattle.call_contexts.specs.Instances.{AddsInstances, AreInstances, HasScopes, IsInstanceBy, AreRoundsOf, IsLayoutOf, OfLayout};
 
 /// Where a context's places and loop instances begin, and the scope round it.
 #[derive(Clone, Copy, Debug)]
@@ -91,7 +90,7 @@ fn all_instances(
     firsts: &[u32],
     outers: &[u32],
 ) -> Result<List<LoopInst>, AllocError>
-    requires program { (image : Image) × (entry : ℕ) × HasRounds image entry graphs.now nests.now layout.now rounds.now firsts.now }
+    requires program { AreRoundsOf graphs.now nests.now layout.now rounds.now firsts.now }
     requires outers { length outers.now ≡ length layout.now.contexts.keys }
     ensures { IfOk result (λ instances. AreInstances graphs.now.graphs nests.now.nests layout.now firsts.now outers.now
         (length layout.now.contexts.keys) instances) }
@@ -130,12 +129,12 @@ pub fn instances_of(
     nests: &Nests,
     layout: &Layout,
 ) -> Result<Instances, AllocError>
-    requires { (image : Image) × (entry : ℕ) × HasLayout image entry graphs.now nests.now layout.now }
-    ensures scopes { IfOk result (λ made. slice_get layout.now.bases.items (length layout.now.contexts.keys) ≡ Some (suc (length made.scopes.items))) }
+    requires { IsLayoutOf graphs.now nests.now layout.now }
+    ensures scopes { IfOk result (λ made.
+        slice_get layout.now.bases.items (length layout.now.contexts.keys) ≡ Some (suc (length made.scopes.items))) }
     // Each net with these contexts and places, loop instances and scopes has just the instances of its loops.
-    ensures instances { IfOk result (λ made. (image : Image) (entry : ℕ) →
-        HasLayout image entry graphs.now nests.now layout.now →
-        (net : Net) → HasScopes graphs.now.graphs layout.now made net → HasInstances image net) }
+    ensures instances { IfOk result (λ made. OfLayout graphs.now nests.now layout.now (λ image entry.
+        (net : Net) → HasScopes graphs.now.graphs layout.now made net → HasInstances image net)) }
 {
     let rounds = all_rounds(alloc, graphs, nests)?;
     let firsts = firsts_of(alloc, graphs, nests, layout)?;

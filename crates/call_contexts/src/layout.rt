@@ -2,7 +2,6 @@
 
 ghost use Rattle.std.specs.Prelude.{◌≡◌, ◌≤◌, ℕ, ◌-◌, length, slice_get, Some, IfErr, IfOk, OnOk};
 ghost use Rattle.std.specs.Bool.{OnFalse, OnTrue};
-ghost use Rattle.elf_mips.specs.declared.image.Image.{Image};
 ghost use Rattle.net_model.specs.Functions.{CanReturn};
 
 use crate::contexts::{Expanded, bases_of, make_contexts};
@@ -32,7 +31,7 @@ pub struct Layout {
 
 ghost use Rattle.call_contexts.specs.Counted.{IsFit};
 ghost use Rattle.call_contexts.specs.Expansion.{IsMade};
-ghost use Rattle.call_contexts.specs.Layout.{HasGraphs, IsLayout, IsMadeAs};
+ghost use Rattle.call_contexts.specs.Layout.{IsLayout, IsMadeAs, HaveProgram, OfGraphs};
 ghost use Rattle.call_contexts.specs.Programs.{AreTooMany, TellsFault};
 ghost use Rattle.call_contexts.specs.Sizes.{AreSizes, most_contexts, most_places};
 
@@ -90,15 +89,14 @@ fn is_too_many(sizes: Sizes) -> bool
 /// any context is made. It takes a bisection of the graphs for each call of a unit, and a step for each
 /// unit and each context.
 pub fn layout_of(alloc: Global, graphs: &Graphs) -> Result<Layout, NetFault>
-    requires { (image : Image) × (entry : ℕ) × HasGraphs image entry graphs.now }
-    ensures layout { IfOk result (λ layout. (image : Image) (entry : ℕ) → HasGraphs image entry graphs.now →
-        IsLayout image entry graphs.now.graphs layout) }
-    ensures sizes { IfOk result (λ layout. (image : Image) (entry : ℕ) → HasGraphs image entry graphs.now →
+    requires { HaveProgram graphs.now }
+    ensures layout { IfOk result (λ layout. OfGraphs graphs.now (λ image entry.
+        IsLayout image entry graphs.now.graphs layout)) }
+    ensures sizes { IfOk result (λ layout. OfGraphs graphs.now (λ image entry.
         (next : ℕ) → slice_get layout.bases.items (length layout.contexts.keys) ≡ Some next →
-        AreSizes image entry (length layout.contexts.keys) (next - 1)) }
-    ensures returns { OnOk result ((image : Image) (entry : ℕ) → HasGraphs image entry graphs.now → CanReturn image entry) }
-    ensures bad { IfErr result (λ fault. (image : Image) (entry : ℕ) → HasGraphs image entry graphs.now →
-        TellsFault image entry fault) }
+        AreSizes image entry (length layout.contexts.keys) (next - 1))) }
+    ensures returns { OnOk result (OfGraphs graphs.now (λ image entry. CanReturn image entry)) }
+    ensures bad { IfErr result (λ fault. OfGraphs graphs.now (λ image entry. TellsFault image entry fault)) }
 {
     let functions = graphs.graphs.as_slice();
     if !functions[0].can_return {

@@ -1,7 +1,6 @@
 //! The net of a program.
 
-ghost use Rattle.std.specs.Prelude.{ℕ, suc, ◌≡◌, ◌≤◌, ◌^◌, length, slice_get, List, Some, IfErr, IfOk, OnOk};
-ghost use Rattle.elf_mips.specs.declared.image.Image.{Image};
+ghost use Rattle.std.specs.Prelude.{suc, ◌≡◌, ◌≤◌, ◌^◌, length, slice_get, List, Some, IfErr, IfOk, OnOk};
 ghost use Rattle.elf_mips.specs.Segments.{code_at};
 ghost use Rattle.flow_net.specs.Nested.{IsNested};
 ghost use Rattle.flow_net.specs.declared.net.Context.{Context};
@@ -9,8 +8,8 @@ ghost use Rattle.mips_decode.specs.State.{State};
 ghost use Rattle.net_model.specs.Functions.{CanReturn};
 ghost use Rattle.net_model.specs.Net.{HasUnits, IsNet};
 ghost use Rattle.net_model.specs.Runs.{GoesAlong, IsKeptRun};
-ghost use Rattle.call_contexts.specs.Instances.{HasLayout};
-ghost use Rattle.call_contexts.specs.Programs.{IsProgram, TellsFault};
+ghost use Rattle.call_contexts.specs.Instances.{IsLayoutOf, OfLayout};
+ghost use Rattle.call_contexts.specs.Programs.{TellsFault, AreOfProgram, OfProgram};
 ghost use Rattle.call_contexts.specs.Sizes.{AreSizes, most_contexts, most_places};
 
 use crate::accesses::accesses_of;
@@ -38,14 +37,13 @@ fn listed(alloc: Global, contexts: &[Context]) -> Result<List<Context>, AllocErr
 
 /// The net of a program whose contexts are laid out.
 fn net_of(alloc: Global, graphs: &Graphs, nests: &Nests, layout: &Layout) -> Result<Net, AllocError>
-    requires { (image : Image) × (entry : ℕ) × HasLayout image entry graphs.now nests.now layout.now }
-    ensures net { IfOk result (λ net. (image : Image) (entry : ℕ) → HasLayout image entry graphs.now nests.now layout.now →
-        IsNet image entry net) }
-    ensures units { IfOk result (λ net. (image : Image) (entry : ℕ) → HasLayout image entry graphs.now nests.now layout.now →
-        HasUnits image net) }
+    requires { IsLayoutOf graphs.now nests.now layout.now }
+    ensures net { IfOk result (λ net. OfLayout graphs.now nests.now layout.now (λ image entry. IsNet image entry net)) }
+    ensures units { IfOk result (λ net. OfLayout graphs.now nests.now layout.now (λ image entry. HasUnits image net)) }
     ensures few { IfOk result (λ net. length net.arcs ≤ 2 ^ 25) }
     ensures contexts { IfOk result (λ net. net.contexts ≡ layout.now.contexts.keys) }
-    ensures places { IfOk result (λ net. slice_get layout.now.bases.items (length layout.now.contexts.keys) ≡ Some (suc (length net.places))) }
+    ensures places { IfOk result (λ net.
+        slice_get layout.now.bases.items (length layout.now.contexts.keys) ≡ Some (suc (length net.places))) }
 {
     let made = instances_of(alloc, graphs, nests, layout)?;
     let places = places_of(alloc, graphs, layout, &made.scopes)?;
@@ -68,22 +66,22 @@ fn net_of(alloc: Global, graphs: &Graphs, nests: &Nests, layout: &Layout) -> Res
 /// anything is made. It takes time in proportion to the places, their arcs and the units in the bodies of
 /// the functions' loops, times a logarithm.
 pub fn expand(alloc: Global, graphs: &Graphs, nests: &Nests) -> Result<Net, NetFault>
-    requires { (image : Image) × (entry : ℕ) × IsProgram image entry graphs.now nests.now }
-    ensures net { IfOk result (λ net. (image : Image) (entry : ℕ) → IsProgram image entry graphs.now nests.now → IsNet image entry net) }
+    requires { AreOfProgram graphs.now nests.now }
+    ensures net { IfOk result (λ net. OfProgram graphs.now nests.now (λ image entry. IsNet image entry net)) }
     ensures nested { IfOk result (λ net. IsNested net) }
-    ensures units { IfOk result (λ net. (image : Image) (entry : ℕ) → IsProgram image entry graphs.now nests.now → HasUnits image net) }
+    ensures units { IfOk result (λ net. OfProgram graphs.now nests.now (λ image entry. HasUnits image net)) }
     ensures few { IfOk result (λ net. length net.arcs ≤ 2 ^ 25) }
     ensures contexts { IfOk result (λ net. length net.contexts ≤ most_contexts) }
     ensures places { IfOk result (λ net. length net.places ≤ most_places) }
-    ensures sizes { IfOk result (λ net. (image : Image) (entry : ℕ) → IsProgram image entry graphs.now nests.now →
-        AreSizes image entry (length net.contexts) (length net.places)) }
-    ensures returns { OnOk result ((image : Image) (entry : ℕ) → IsProgram image entry graphs.now nests.now → CanReturn image entry) }
+    ensures sizes { IfOk result (λ net. OfProgram graphs.now nests.now (λ image entry.
+        AreSizes image entry (length net.contexts) (length net.places))) }
+    ensures returns { OnOk result (OfProgram graphs.now nests.now (λ image entry. CanReturn image entry)) }
     // Every run whose indirect transfers go to recorded targets and which returns to its callers goes along a path
     // of the net.
-    ensures paths { IfOk result (λ net. (image : Image) (entry : ℕ) → IsProgram image entry graphs.now nests.now →
-        (s : State) (states : List State) → IsKeptRun image entry s states → GoesAlong net (code_at image.segments) s states) }
-    ensures bad { IfErr result (λ fault. (image : Image) (entry : ℕ) → IsProgram image entry graphs.now nests.now →
-        TellsFault image entry fault) }
+    ensures paths { IfOk result (λ net. OfProgram graphs.now nests.now (λ image entry.
+        (s : State) (states : List State) → IsKeptRun image entry s states →
+        GoesAlong net (code_at image.segments) s states)) }
+    ensures bad { IfErr result (λ fault. OfProgram graphs.now nests.now (λ image entry. TellsFault image entry fault)) }
 {
     let layout = layout_of(alloc, graphs)?;
     let net = net_of(alloc, graphs, nests, &layout)?;

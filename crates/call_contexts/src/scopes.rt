@@ -1,8 +1,7 @@
 //! The scopes of the places of a program's contexts.
 
 ghost use Rattle.std.specs.Prelude.{◌≡◌, ◌+◌, ◌^◌, ◌<◌, ◌++◌, ℕ, All, Some, length, map, slice_get, IfOk, IfSome, OnOk};
-ghost use Rattle.elf_mips.specs.declared.image.Image.{Image};
-ghost use Rattle.call_contexts.specs.Instances.{AreFirsts, AreScopes, HasRounds, HasLayout, IsRoundContext, scope_by};
+ghost use Rattle.call_contexts.specs.Instances.{AreFirsts, AreScopes, IsRoundContext, scope_by, AreRoundsFor, IsLaidFor, IsLayoutOf, OfRounds};
 
 use crate::around::Rounds;
 use crate::layout::Layout;
@@ -19,8 +18,9 @@ pub fn firsts_of(
     nests: &Nests,
     layout: &Layout,
 ) -> Result<Vec<u32>, AllocError>
-    requires { (image : Image) × (entry : ℕ) × HasLayout image entry graphs.now nests.now layout.now }
-    ensures { IfOk result (λ firsts. AreFirsts graphs.now.graphs nests.now.nests layout.now (length layout.now.contexts.keys) firsts.items) }
+    requires { IsLayoutOf graphs.now nests.now layout.now }
+    ensures { IfOk result (λ firsts.
+        AreFirsts graphs.now.graphs nests.now.nests layout.now (length layout.now.contexts.keys) firsts.items) }
 {
     let mut firsts = Vec::new(alloc);
     let mut next = 0;
@@ -70,7 +70,7 @@ fn outer_of(
     number: usize,
     context: &Context,
 ) -> u32
-    requires program { (image : Image) × (entry : ℕ) × (nests : Nests) × HasLayout image entry graphs.now nests layout.now }
+    requires program { IsLaidFor graphs.now layout.now }
     requires context { slice_get layout.now.contexts.keys number ≡ Some context.now }
     requires filled { slice_get layout.now.bases.items number ≡ Some (length scopes.now + 1) }
     ensures { IsRoundContext graphs.now.graphs layout.now scopes.now number result }
@@ -100,10 +100,10 @@ pub fn scopes_of(
     rounds: &[Rounds],
     firsts: &[u32],
 ) -> Result<Scopes, AllocError>
-    requires { (image : Image) × (entry : ℕ) × (nests : Nests) × HasRounds image entry graphs.now nests layout.now rounds.now firsts.now }
-    ensures { IfOk result (λ made. (image : Image) (entry : ℕ) (nests : Nests) →
-        HasRounds image entry graphs.now nests layout.now rounds.now firsts.now →
-        AreScopes graphs.now.graphs nests.nests layout.now firsts.now (length layout.now.contexts.keys) made.outers.items made.scopes.items) }
+    requires { AreRoundsFor graphs.now layout.now rounds.now firsts.now }
+    ensures { IfOk result (λ made. OfRounds graphs.now layout.now rounds.now firsts.now (λ nests.
+        AreScopes graphs.now.graphs nests.nests layout.now firsts.now (length layout.now.contexts.keys)
+        made.outers.items made.scopes.items)) }
 {
     let contexts = layout.contexts.as_slice();
     let mut outers = Vec::new(alloc);

@@ -1,7 +1,6 @@
 //! How many contexts and places a program has.
 
 ghost use Rattle.std.specs.Prelude.{◌≡◌, ◌<◌, ◌+◌, ℕ, All, IfOk, length, sum_by};
-ghost use Rattle.elf_mips.specs.declared.image.Image.{Image};
 ghost use Rattle.step_table.specs.Numbers.{number_of};
 ghost use Rattle.step_table.specs.Table.{IsWithin};
 ghost use Rattle.call_contexts.specs.Counting.{AreToldAll, IsAcyclic, IsFinished, IsToldFirst, ones_for, steps_in, steps_of, told_of, unit_counts};
@@ -137,7 +136,7 @@ pub fn sizes_told(alloc: Global, units: &[u64], lists: &[List<Called>]) -> Resul
 }
 
 ghost use Rattle.call_contexts.specs.Counted.{IsCounted};
-ghost use Rattle.call_contexts.specs.Layout.{HasGraphs};
+ghost use Rattle.call_contexts.specs.Layout.{HaveProgram};
 
 /// The calls of graphs, their units, and how much they make.
 #[derive(Drop)]
@@ -152,7 +151,7 @@ pub struct Counted {
 
 /// The calls of a program's graphs, their units, and how many contexts and places the first graph makes.
 pub fn count_all(alloc: Global, graphs: &[Graph]) -> Result<Counted, AllocError>
-    requires { (image : Image) × (entry : ℕ) × HasGraphs image entry (record { graphs = graphs.now }) }
+    requires { HaveProgram (record { graphs = graphs.now }) }
     ensures { IfOk result (λ counted. IsCounted graphs.now counted) }
 {
     let lists = call_lists(alloc, graphs)?;

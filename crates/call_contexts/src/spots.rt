@@ -53,7 +53,8 @@ pub fn places_of(
     scopes: &[u32],
 ) -> Result<Vec<Place>, AllocError>
     requires laid { IsLaidOut graphs.now.graphs layout.now }
-    requires scopes { slice_get layout.now.bases.items (length layout.now.contexts.keys) ≡ Some (suc (length scopes.now)) }
+    requires scopes { slice_get layout.now.bases.items (length layout.now.contexts.keys)
+        ≡ Some (suc (length scopes.now)) }
     ensures laid { IfOk result (λ places. IsLaid graphs.now.graphs layout.now places.items) }
     ensures scopes { IfOk result (λ places. map (λ (place : Place). place.scope) places.items ≡ scopes.now) }
 {

@@ -53,7 +53,8 @@ fn rise_entry<D: Lattice, R: Rise<D>>(
     requires rising { Rises 0 newer.now }
     requires shaped { (y : D) → value_at entry.old.0 newer.now ≡ Some y → HaveShape D.has entry.old.1 y }
     ensures { IfOk result (λ met. MatchOption (value_at entry.old.0 newer.now) (met ≡ None)
-        (λ y. (entry.new ≡ (entry.old.0, R.risen entry.old.1 y)) × (met ≡ Some (not (D.leq entry.new.1 entry.old.1))))) }
+        (λ y. (entry.new ≡ (entry.old.0, R.risen entry.old.1 y))
+        × (met ≡ Some (not (D.leq entry.new.1 entry.old.1))))) }
 {
     match value_in(newer, entry.0) {
         Some(value) => Ok(Some(by.rise(&mut entry.1, value)?)),

@@ -18,7 +18,8 @@ fn widen_slot<D: Widen>(
 ) -> Result<bool, AllocError>
     requires inside { place < length values.old }
     requires shaped { HaveShape (option_has D.has) (value_of values.old place) newer.now }
-    ensures value { OnOk result (values.new ≡ slice_set values.old place (option_joined D.widened (value_of values.old place) newer.now)) }
+    ensures value { OnOk result (values.new
+        ≡ slice_set values.old place (option_joined D.widened (value_of values.old place) newer.now)) }
     ensures grew { IfOk result (λ grew. grew ≡ not (option_leq D.leq
         (option_joined D.widened (value_of values.old place) newer.now) (value_of values.old place))) }
 {

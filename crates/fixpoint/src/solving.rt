@@ -54,12 +54,14 @@ fn spread<D: Widen, T: Transfer<D>>(
     values: &mut [Option<D>],
     waiting: &mut Waiting,
 ) -> Result<(), AllocError>
-    requires numbers { (number : ℕ) → IsIn number numbers.now → IsNumberOf arcs.now number × T.serves_arc transfer.now number }
+    requires numbers { (number : ℕ) → IsIn number numbers.now →
+        IsNumberOf arcs.now number × T.serves_arc transfer.now number }
     requires shaped { D.has after.now (T.shape transfer.now) }
     requires slots { (place : ℕ) → option_ok (λ x. D.has x (T.shape transfer.now)) (value_of values.old place) }
     requires sized { length waiting.old ≡ length values.old }
     requires ends { All (λ arc. arc.to < length values.old) arcs.now }
-    ensures { OnOk result (IsSpread (λ x. D.has x (T.shape transfer.now)) D.leq D.widened D.rank D.height (T.moved transfer.now)
+    ensures { OnOk result (IsSpread (λ x. D.has x (T.shape transfer.now)) D.leq D.widened D.rank D.height
+        (T.moved transfer.now)
         arcs.now after.now numbers.now [] values.old waiting.old values.new waiting.new) }
 {
     for number in numbers {
@@ -78,7 +80,8 @@ fn state_after<D: Widen, T: Transfer<D>>(
     requires inside { place < length values.now }
     requires there { value_of values.now place ≡ None → ⊥ }
     requires slots { (place : ℕ) → option_ok (λ x. D.has x (T.shape transfer.now)) (value_of values.now place) }
-    ensures { IfOk result (λ after. (x : D) → value_of values.now place ≡ Some x → after ≡ T.stepped transfer.now place x) }
+    ensures { IfOk result (λ after. (x : D) → value_of values.now place ≡ Some x →
+        after ≡ T.stepped transfer.now place x) }
 {
     match &values[place as usize] {
         Some(before) => transfer.step(place, before),
@@ -194,15 +197,18 @@ pub fn solve<D: Widen, T: Transfer<D>>(
     requires shaped { D.has start.now (T.shape transfer.now) }
     ensures size { IfOk result (λ t. length t ≡ length net.now.places + 1) }
     // Each state has the transfer's shape, and the start is under that of the first place.
-    ensures shape { IfOk result (λ t. (place : ℕ) (x : D) → value_of t place ≡ Some x → D.has x (T.shape transfer.now)) }
+    ensures shape { IfOk result (λ t. (place : ℕ) (x : D) → value_of t place ≡ Some x →
+        D.has x (T.shape transfer.now)) }
     ensures starts { IfOk result (λ t. Starts D.leq net.now.arcs start.now t) }
     ensures closed { IfOk result (λ t. IsClosed D.leq (T.stepped transfer.now) (T.moved transfer.now) net.now.arcs t) }
     // It is under all that the outcomes and the widening stay under.
     ensures tests { IfOk result (λ t. (test : ℕ → D → Bool)
-        → IsKept (λ x. D.has x (T.shape transfer.now)) D.widened (T.stepped transfer.now) (T.moved transfer.now) net.now.arcs test
+        → IsKept (λ x. D.has x (T.shape transfer.now)) D.widened (T.stepped transfer.now)
+        (T.moved transfer.now) net.now.arcs test
         → PassesFirst net.now.arcs start.now test → Passes test t) }
     ensures ceilings { IfOk result (λ t. (ceiling : ℕ → D)
-        → AreCeilings (λ x. D.has x (T.shape transfer.now)) D.leq D.widened (T.stepped transfer.now) (T.moved transfer.now)
+        → AreCeilings (λ x. D.has x (T.shape transfer.now)) D.leq D.widened (T.stepped transfer.now)
+        (T.moved transfer.now)
         net.now.arcs start.now ceiling
         → (place : ℕ) (x : D) → value_of t place ≡ Some x → D.leq x (ceiling place) ≡ true) }
 {

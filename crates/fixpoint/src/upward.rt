@@ -13,7 +13,8 @@ use std::alloc::{AllocError, Global};
 
 /// Whether each loop instance lies in one of a lesser number, or in the run.
 fn outers_fall(loops: &[LoopInst]) -> bool
-    ensures fall { OnTrue result (EachItem (λ scope (inst : LoopInst). inst.outer < scope) (length loops.now) loops.now) }
+    ensures fall { OnTrue result
+        (EachItem (λ scope (inst : LoopInst). inst.outer < scope) (length loops.now) loops.now) }
 {
     for index in 0..loops.len() {
         if loops[index].outer as usize > index {
@@ -105,7 +106,8 @@ fn are_marked(reached: &[bool]) -> bool
 /// Whether each place is reached by an arc from a lesser one, or from 0.
 fn are_reached(alloc: Global, net: &Net) -> Result<bool, AllocError>
     requires { AreArcs (length net.now.places) net.now.arcs }
-    ensures { IfOk result (λ all. OnTrue all ((place : ℕ) → 0 < place → place ≤ length net.now.places → IsReached net.now.arcs place)) }
+    ensures { IfOk result (λ all. OnTrue all ((place : ℕ) → 0 < place → place ≤ length net.now.places →
+        IsReached net.now.arcs place)) }
 {
     let mut reached = vec![in alloc; false; net.places.as_slice().len() + 1]?;
     mark_ends(net.arcs.as_slice(), &mut reached);

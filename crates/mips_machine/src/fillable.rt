@@ -11,7 +11,8 @@ use elf_mips::{Image, Segment};
 
 /// Whether all bytes of a fill lie among so many bytes from a start on.
 fn lies_in(fill: &Fill, start: u32, size: u32) -> bool
-    ensures { result ≡ (nat_le start fill.now.address && nat_le (fill.now.address + length fill.now.bytes) (start + size)) }
+    ensures { result ≡ (nat_le start fill.now.address
+        && nat_le (fill.now.address + length fill.now.bytes) (start + size)) }
 {
     let fill_end = u64::from(fill.address) + fill.bytes.as_slice().len() as u64;
     start <= fill.address && fill_end <= u64::from(start) + u64::from(size)

@@ -48,7 +48,8 @@ fn show(
     requires choice { length choice.old ≡ length net.now.places + 1 }
     requires worths { length worths.old ≡ length net.now.places + 1 }
     requires levels { SomeLevels (plain net.now tables.now) (entry weights.old) (entry turns.old) (deepest + 1) }
-    ensures shows { IfOk result (λ leaf. ShowsFrom net.now tables.now (entry weights.old) (entry turns.old) (deepest + 1) leaf) }
+    ensures shows { IfOk result (λ leaf. ShowsFrom net.now tables.now (entry weights.old) (entry turns.old)
+        (deepest + 1) leaf) }
 {
     let total = solve_all(net, tables, deepest, weights, turns, up, best, choice);
     note_bases(net, latest, best, worths);

@@ -59,7 +59,8 @@ pub fn weights_of(
     requires some { 0 < length turns.now }
     requires loops { length turns.now ≤ 2 ^ 28 + 1 }
     requires small { (p : ℕ) → entry worths.now p ≤ 2 ^ 120 }
-    ensures weights { IfOk result (λ weights. weights ≡ weights_to (times_of places total (entry worths.now) (entry turns.now))
+    ensures weights { IfOk result (λ weights. weights ≡ weights_to
+        (times_of places total (entry worths.now) (entry turns.now))
         (places + length turns.now)) }
 {
     let mut weights = List::new(alloc);
@@ -84,7 +85,8 @@ pub fn leaf_of(
     requires small { (p : ℕ) → entry worths.now p ≤ 2 ^ 120 }
     ensures denom { IfOk result (λ leaf. leaf.denom ≡ pos 1) }
     ensures shows { IfOk result (λ leaf. leaf.empty ≡ false) }
-    ensures weights { IfOk result (λ leaf. leaf.weights ≡ weights_to (times_of places total (entry worths.now) (entry turns.now))
+    ensures weights { IfOk result (λ leaf. leaf.weights ≡ weights_to
+        (times_of places total (entry worths.now) (entry turns.now))
         (places + length turns.now)) }
 {
     let weights = weights_of(alloc, places, total, worths, turns)?;

@@ -44,9 +44,11 @@ fn put_forward(
     requires backs { length backs.now ≡ length net.now.arcs + 1 }
     requires arrivals { AreArrivals net.now arrivals.now }
     requires place { length place.old ≡ length net.now.arcs + 1 }
-    ensures onward { OnOk result ((left : ℕ → ℕ) (done first low q : ℕ) → (arcs_of net.now backs.now).to arc ≡ q → left q ≡ 0 → q < low
+    ensures onward { OnOk result ((left : ℕ → ℕ) (done first low q : ℕ) → (arcs_of net.now backs.now).to arc ≡ q →
+        left q ≡ 0 → q < low
         → IsOpening (arcs_of net.now backs.now) order.old.items (entry place.old) left done first low q arc
-        → IsOpening (arcs_of net.now backs.now) order.new.items (entry place.new) left done first low q (entry arrivals.now.next.items arc)) }
+        → IsOpening (arcs_of net.now backs.now) order.new.items (entry place.new) left done first low q
+        (entry arrivals.now.next.items arc)) }
 {
     if backs[arc] {
         return Ok(());
@@ -69,7 +71,8 @@ fn open(
     requires arrivals { AreArrivals net.now arrivals.now }
     requires place { length place.old ≡ length net.now.arcs + 1 }
     ensures opened { OnOk result ((left : ℕ → ℕ) (done first low : ℕ) → left to ≡ 0 → to < low
-        → IsOpening (arcs_of net.now backs.now) order.old.items (entry place.old) left done first low to (entry arrivals.now.heads.items to)
+        → IsOpening (arcs_of net.now backs.now) order.old.items (entry place.old) left done first low to
+        (entry arrivals.now.heads.items to)
         → IsOpening (arcs_of net.now backs.now) order.new.items (entry place.new) left done first low to 0) }
 {
     let mut arc = arrivals.heads[to];
@@ -113,7 +116,8 @@ fn put_backs(
     requires place { length place.old ≡ length net.now.arcs + 1 }
     ensures backs { OnOk result ((left : ℕ → ℕ)
         → IsOpening (arcs_of net.now backs.now) order.old.items (entry place.old) left 0 1 0 0 0
-        → IsOpening (arcs_of net.now backs.now) order.new.items (entry place.new) left 0 (length net.now.arcs + 1) 0 0 0) }
+        → IsOpening (arcs_of net.now backs.now) order.new.items (entry place.new) left 0
+        (length net.now.arcs + 1) 0 0 0) }
 {
     for arc in 1..net.arcs.as_slice().len() + 1 {
         put_back_arc(net, backs, arc, order, place)?;
@@ -138,7 +142,8 @@ fn open_if_done(
     requires place { length place.old ≡ length net.now.arcs + 1 }
     requires opening { IsOpening (arcs_of net.now backs.now) order.old.items (entry place.old) (entry left.now)
         0 (length net.now.arcs + 1) to 0 0 }
-    ensures opening { OnOk result (IsOpening (arcs_of net.now backs.now) order.new.items (entry place.new) (entry left.now)
+    ensures opening { OnOk result (IsOpening (arcs_of net.now backs.now) order.new.items (entry place.new)
+        (entry left.now)
         0 (length net.now.arcs + 1) (to + 1) 0 0) }
 {
     if left[to] != 0 {
@@ -163,7 +168,8 @@ fn open_ends(
     requires place { length place.old ≡ length net.now.arcs + 1 }
     requires opening { IsOpening (arcs_of net.now backs.now) order.old.items (entry place.old) (entry left.now)
         0 (length net.now.arcs + 1) 0 0 0 }
-    ensures opening { OnOk result (IsOpening (arcs_of net.now backs.now) order.new.items (entry place.new) (entry left.now)
+    ensures opening { OnOk result (IsOpening (arcs_of net.now backs.now) order.new.items (entry place.new)
+        (entry left.now)
         0 (length net.now.arcs + 1) (length net.now.places + 1) 0 0) }
 {
     for to in 0..net.places.as_slice().len() + 1 {
@@ -191,7 +197,8 @@ fn take(
     requires place { length place.old ≡ length net.now.arcs + 1 }
     requires opening { IsOpening (arcs_of net.now backs.now) order.old.items (entry place.old) (entry left.old)
         at (length net.now.arcs + 1) (length net.now.places + 1) 0 0 }
-    ensures opening { OnOk result (IsOpening (arcs_of net.now backs.now) order.new.items (entry place.new) (entry left.new)
+    ensures opening { OnOk result (IsOpening (arcs_of net.now backs.now) order.new.items (entry place.new)
+        (entry left.new)
         (at + 1) (length net.now.arcs + 1) (length net.now.places + 1) 0 0) }
 {
     let arc = order[at];
@@ -266,7 +273,8 @@ pub fn order_of(alloc: Global, net: &Net, backs: &[bool]) -> Result<Order, Alloc
     requires few { IsFew net.now }
     requires backs { length backs.now ≡ length net.now.arcs + 1 }
     requires acyclic { AreAcyclic (arcs_of net.now backs.now) (length net.now.places) }
-    ensures order { IfOk result (λ order. IsOrder (arcs_of net.now backs.now) order.arcs.items (entry order.positions.items)) }
+    ensures order { IfOk result (λ order. IsOrder (arcs_of net.now backs.now) order.arcs.items
+        (entry order.positions.items)) }
 {
     let mut arcs = Vec::new(alloc);
     let mut positions = vec![in alloc; 0; net.arcs.as_slice().len() + 1]?;

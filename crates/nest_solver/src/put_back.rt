@@ -38,7 +38,8 @@ fn put_turn(
     requires counts { length counts.old ≡ length net.now.arcs + 1 }
     requires scope { IsUpTo (length net.now.loops) scope }
     requires deep { entry tables.now.scopes.depths.items scope ≡ depth }
-    requires turn { SomeTurn (plain net.now tables.now) depth scope (entry best.now) (entry choice.now) (entry often.now)
+    requires turn { SomeTurn (plain net.now tables.now) depth scope (entry best.now) (entry choice.now)
+        (entry often.now)
         (entry counts.old) }
     ensures put { (value turns start : ℕ → ℕ) (path : List ℕ) (total next : ℕ) →
         IsAtTurn (plain net.now tables.now) value turns path total depth scope (entry best.now) (entry choice.now)

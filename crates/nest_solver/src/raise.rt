@@ -100,10 +100,13 @@ fn raise_level(
     requires levels { SomeLevels (plain net.now tables.now) (entry weights.now) (entry turns.now) 1 }
     requires small { (p : ℕ) → entry worths.old p ≤ 2 ^ 63 * (length net.now.arcs + 2 + (depth - 1)) }
     ensures small { (p : ℕ) → entry worths.new p ≤ 2 ^ 63 * (length net.now.arcs + 2 + depth) }
-    ensures worths { (price : ℕ → ℕ) (total : ℕ) → AreLevels (plain net.now tables.now) price (entry weights.now) (entry turns.now) 1
-        → AreWorths (plain net.now tables.now) (weight_of (plain net.now tables.now) (value_at_end (plain net.now tables.now) price) (entry turns.now))
+    ensures worths { (price : ℕ → ℕ) (total : ℕ) → AreLevels (plain net.now tables.now) price (entry weights.now)
+        (entry turns.now) 1
+        → AreWorths (plain net.now tables.now)
+        (weight_of (plain net.now tables.now) (value_at_end (plain net.now tables.now) price) (entry turns.now))
         (entry turns.now) (depth - 1) total (entry worths.old)
-        → AreWorths (plain net.now tables.now) (weight_of (plain net.now tables.now) (value_at_end (plain net.now tables.now) price) (entry turns.now))
+        → AreWorths (plain net.now tables.now)
+        (weight_of (plain net.now tables.now) (value_at_end (plain net.now tables.now) price) (entry turns.now))
         (entry turns.now) depth total (entry worths.new) }
 {
     level(net, tables, depth, weights, up, best, choice);
@@ -135,10 +138,13 @@ pub fn raise_all(
     requires levels { SomeLevels (plain net.now tables.now) (entry weights.now) (entry turns.now) 1 }
     requires small { (p : ℕ) → entry worths.old p ≤ 2 ^ 63 * (length net.now.arcs + 2 + 0) }
     ensures small { (p : ℕ) → entry worths.new p ≤ 2 ^ 63 * (length net.now.arcs + 2 + deepest) }
-    ensures worths { (price : ℕ → ℕ) (total : ℕ) → AreLevels (plain net.now tables.now) price (entry weights.now) (entry turns.now) 1
-        → AreWorths (plain net.now tables.now) (weight_of (plain net.now tables.now) (value_at_end (plain net.now tables.now) price) (entry turns.now))
+    ensures worths { (price : ℕ → ℕ) (total : ℕ) → AreLevels (plain net.now tables.now) price (entry weights.now)
+        (entry turns.now) 1
+        → AreWorths (plain net.now tables.now)
+        (weight_of (plain net.now tables.now) (value_at_end (plain net.now tables.now) price) (entry turns.now))
         (entry turns.now) 0 total (entry worths.old)
-        → AreWorths (plain net.now tables.now) (weight_of (plain net.now tables.now) (value_at_end (plain net.now tables.now) price) (entry turns.now))
+        → AreWorths (plain net.now tables.now)
+        (weight_of (plain net.now tables.now) (value_at_end (plain net.now tables.now) price) (entry turns.now))
         (entry turns.now) deepest total (entry worths.new) }
 {
     for depth in 1..deepest + 1 {

@@ -64,7 +64,8 @@ fn solve_level(
     requires best { length best.old ≡ length net.now.places + 1 }
     requires choice { length choice.old ≡ length net.now.places + 1 }
     requires levels { SomeLevels (plain net.now tables.now) (entry weights.old) (entry turns.old) (depth + 1) }
-    ensures levels { (price : ℕ → ℕ) → AreLevels (plain net.now tables.now) price (entry weights.old) (entry turns.old) (depth + 1)
+    ensures levels { (price : ℕ → ℕ) → AreLevels (plain net.now tables.now) price (entry weights.old) (entry turns.old)
+        (depth + 1)
         → AreLevels (plain net.now tables.now) price (entry weights.new) (entry turns.new) depth }
 {
     level(net, tables, depth, weights, up, best, choice);
@@ -92,7 +93,8 @@ pub fn solve(
     requires best { length best.old ≡ length net.now.places + 1 }
     requires choice { length choice.old ≡ length net.now.places + 1 }
     requires levels { SomeLevels (plain net.now tables.now) (entry weights.old) (entry turns.old) (deepest + 1) }
-    ensures levels { (price : ℕ → ℕ) → AreLevels (plain net.now tables.now) price (entry weights.old) (entry turns.old) (deepest + 1)
+    ensures levels { (price : ℕ → ℕ) → AreLevels (plain net.now tables.now) price (entry weights.old) (entry turns.old)
+        (deepest + 1)
         → AreLevels (plain net.now tables.now) price (entry weights.new) (entry turns.new) 1 }
 {
     let mut depth = deepest;
@@ -123,7 +125,8 @@ pub fn solve_all(
     requires best { length best.old ≡ length net.now.places + 1 }
     requires choice { length choice.old ≡ length net.now.places + 1 }
     requires levels { SomeLevels (plain net.now tables.now) (entry weights.old) (entry turns.old) (deepest + 1) }
-    ensures levels { (price : ℕ → ℕ) → AreLevels (plain net.now tables.now) price (entry weights.old) (entry turns.old) (deepest + 1)
+    ensures levels { (price : ℕ → ℕ) → AreLevels (plain net.now tables.now) price (entry weights.old) (entry turns.old)
+        (deepest + 1)
         → AreLevels (plain net.now tables.now) price (entry weights.new) (entry turns.new) 1 }
     ensures up { AreUp net.now (entry tables.now.scopes.depths.items) 0 (entry up.new) }
     ensures swept { IsSwept (plain net.now tables.now) 0 (round_by net.now (entry up.new)) (entry weights.new)

@@ -86,7 +86,8 @@ fn behind(net: &Net, tables: &Tables, depth: usize, up: &[usize], best: &[u64], 
     requires room { length up.now ≡ length net.now.loops + 1 }
     requires run { entry up.now 0 ≡ 0 }
     requires best { length best.now ≡ length net.now.places + 1 }
-    ensures behind { result ≡ reach (plain net.now tables.now) depth (round_by net.now (entry up.now)) (entry best.now) arc }
+    ensures behind { result ≡ reach (plain net.now tables.now) depth (round_by net.now (entry up.now))
+        (entry best.now) arc }
 {
     if ends(net, tables, depth, arc) {
         return 1;
@@ -163,7 +164,8 @@ pub fn sweep(
     requires weights { length weights.now ≡ length net.now.arcs + 1 }
     requires best { length best.old ≡ length net.now.places + 1 }
     requires choice { length choice.old ≡ length net.now.places + 1 }
-    requires fits { HasRoom (plain net.now tables.now) depth (round_by net.now (entry up.now)) (entry weights.now) crude_limit }
+    requires fits { HasRoom (plain net.now tables.now) depth (round_by net.now (entry up.now))
+        (entry weights.now) crude_limit }
     ensures swept { IsSwept (plain net.now tables.now) depth (round_by net.now (entry up.now)) (entry weights.now)
         (entry best.new) (entry choice.new) }
     ensures small { (p : ℕ) → entry best.new p ≤ crude_limit + 1 }

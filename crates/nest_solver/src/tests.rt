@@ -21,7 +21,8 @@ struct Pair {
 /// Place 1 is the header of loop 1 of bound 3, place 2 that of loop 2 of bound 4 inside it, which repeats itself; a run
 /// ends from place 1. Place 1 costs 10 cycles, place 2 costs 100.
 fn two_loops(alloc: Global) -> Result<Pair, AllocError>
-    ensures { IfOk result (λ pair. IsNested pair.net × (length pair.net.arcs ≤ 2 ^ 28) × IsProgramOfNet pair.net pair.program) }
+    ensures { IfOk result (λ pair. IsNested pair.net × (length pair.net.arcs ≤ 2 ^ 28)
+        × IsProgramOfNet pair.net pair.program) }
 {
     let contexts = vec![in alloc;
         Context {

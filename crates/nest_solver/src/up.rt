@@ -38,7 +38,8 @@ fn up_level(net: &Net, scopes: &Scopes, level: usize, depth: usize, up: &mut [us
     requires within { level < length net.now.loops + 2 }
     requires room { length up.old ≡ length net.now.loops + 1 }
     requires run { entry up.old 0 ≡ 0 }
-    requires right { AreRight net.now (entry scopes.now.depths.items) depth (entry up.old) level (length net.now.loops) }
+    requires right { AreRight net.now (entry scopes.now.depths.items) depth (entry up.old) level
+        (length net.now.loops) }
     ensures run { entry up.new 0 ≡ 0 }
     ensures right { AreRight net.now (entry scopes.now.depths.items) depth (entry up.new) level 0 }
 {

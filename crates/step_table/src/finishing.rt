@@ -54,8 +54,10 @@ fn look_on(
     requires sized { length seen.old ≡ length table.now }
     requires counted { length ahead.old ≡ length table.now }
     requires some { 0 < number_of ahead.old last }
-    requires bound { (steps : List ℕ) → slice_get table.now last ≡ Some steps → number_of ahead.old last ≤ length steps }
-    ensures depth { OnOk result ((order : List ℕ) → IsDepth table.now order seen.old ahead.old (trail.old.items ++ last ∷ [])
+    requires bound { (steps : List ℕ) → slice_get table.now last ≡ Some steps →
+        number_of ahead.old last ≤ length steps }
+    ensures depth { OnOk result ((order : List ℕ) → IsDepth table.now order seen.old ahead.old
+        (trail.old.items ++ last ∷ [])
         → IsDepth table.now order seen.new ahead.new trail.new.items) }
     ensures kept { OnOk result (KeepsSeen seen.old seen.new) }
     ensures less { OnOk result
