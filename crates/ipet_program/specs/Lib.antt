@@ -3,6 +3,8 @@ pub mod Costs
 pub mod Sums
 pub mod Scopes
 pub mod Rows
+pub mod Stages
+pub mod StageRows
 pub mod Programs
 pub mod Counts
 pub mod Trees
