@@ -39,3 +39,4 @@ pub mod PlaceFlow
 pub mod TurnsAt
 pub mod PlaceCaps
 pub mod Caps
+pub mod ArcRows

@@ -66,6 +66,16 @@ touch_cost costs instr = 0
 abbrev pub instr_cost : Costs → AccessKind → Instr → ℕ
 instr_cost costs fetch instr = class_cost costs instr + (stage_latency costs fetch 1 + touch_cost costs instr)
 
+-- The same with all stages.
+abbrev pub touch_full : Costs → Instr → ℕ
+touch_full costs (Load op rt base offset) = sum_by (λ (latency : ℕ). latency) (stages_of costs kind.Load)
+touch_full costs (Store op rt base offset) = costs.store
+touch_full costs instr = 0
+
+abbrev pub instr_full : Costs → AccessKind → Instr → ℕ
+instr_full costs fetch instr =
+    class_cost costs instr + (sum_by (λ (latency : ℕ). latency) (stages_of costs fetch) + touch_full costs instr)
+
 -- The most cycles of a unit: two classes, two fetches, and a load or store.
 abbrev pub price_limit : ℕ
 price_limit = 5 * most_cycles

@@ -13,5 +13,6 @@ pub mod Adding
 pub mod Shown
 pub mod Certificates
 pub mod Tables
+pub mod StageTables
 pub mod Faults
 pub mod Forward

@@ -2,6 +2,7 @@
 #![tactic(auto)]
 
 mod adding;
+mod arc_rows;
 mod arcs;
 mod assemble;
 mod certificate;
