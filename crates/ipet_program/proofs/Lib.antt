@@ -40,3 +40,5 @@ pub mod TurnsAt
 pub mod PlaceCaps
 pub mod Caps
 pub mod ArcRows
+pub mod RoundFrom
+pub mod StageLists

@@ -23,6 +23,7 @@ mod program;
 mod rows;
 mod shows;
 mod split;
+mod stages;
 #[cfg(test)]
 mod standing;
 #[cfg(test)]
