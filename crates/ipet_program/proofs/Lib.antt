@@ -43,3 +43,4 @@ pub mod ArcRows
 pub mod RoundFrom
 pub mod StageLists
 pub mod StagesCheckable
+pub mod PlainProgram
