@@ -97,7 +97,7 @@ plain-program net classes profile image program is none = record {
 }
 
 -- ---- Without caches no access has a further stage.
-chain-none : (side : Option Side) → chain_length [] side ≡ 0
+pub chain-none : (side : Option Side) → chain_length [] side ≡ 0
 chain-none None = refl
 chain-none (Some side) = refl
 
