@@ -6,6 +6,8 @@ mod arc_rows;
 mod arcs;
 mod assemble;
 mod certificate;
+#[cfg(test)]
+mod class_rows;
 mod counts;
 mod crude;
 mod fault;
@@ -24,6 +26,8 @@ mod rows;
 mod shows;
 mod split;
 mod stage_rows;
+#[cfg(test)]
+mod stage_tests;
 mod stages;
 mod staging;
 #[cfg(test)]

@@ -129,7 +129,15 @@ pub fn further_stages(
     let mut stages = Vec::new(alloc);
     for index in 0..accesses.len() {
         let row = rows[index].as_slice();
-        add_stages(alloc, net, profile, index as u32 + 1, accesses[index], row, &mut stages)?;
+        add_stages(
+            alloc,
+            net,
+            profile,
+            index as u32 + 1,
+            accesses[index],
+            row,
+            &mut stages,
+        )?;
     }
     Ok(stages)
 }

@@ -29,7 +29,12 @@ fn add_values(net: &Net, values: &mut List<i64>, stages: &[Stage]) -> Result<(),
 }
 
 /// Adds the cap of each stage to the caps: how often the loops round its place let that be visited.
-fn add_caps(net: &Net, turns: &[u128], caps: &mut List<u64>, stages: &[Stage]) -> Result<(), AllocError>
+fn add_caps(
+    net: &Net,
+    turns: &[u128],
+    caps: &mut List<u64>,
+    stages: &[Stage],
+) -> Result<(), AllocError>
     requires scopes { HasScopes net.now }
     requires turns { AreTurns net.now.loops turns.now }
     requires low { AreLow net.now }

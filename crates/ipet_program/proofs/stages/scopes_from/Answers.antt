@@ -17,7 +17,7 @@ unfolding none
 loop-around-smaller c =
     let net = c.args.net.now in
     around-outward net.loops c.requires.scopes.loops c.requires.scopes.chains c.loop-around.around _ (inside-there net.loops c.as_slice-loops.result.now c.args.scope c.loop-around.around none c.as_slice-loops.ensures
-          c.loop-around.invariant.listing.within c.loop-around.invariant.listing.number c.loop-around-test.true)
+    c.loop-around.invariant.listing.within c.loop-around.invariant.listing.number c.loop-around-test.true)
 
 pub loop-around-preserved : goal.loop-around-preserved
 unfolding none
