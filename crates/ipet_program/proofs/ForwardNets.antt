@@ -118,8 +118,7 @@ module _ (net : Net) (is : IsForward net) where
             (λ number arc there. (arc_of number arc there).to);
         headers = each-all (λ (inst : LoopInst). IsNumberOf net.places inst.header) net.loops
             (λ scope inst there. (loop_of scope inst there).header);
-        accesses = All-same (λ (access : Access). IsNumberOf net.places access.place) net.accesses [] is.accesses
-            (All-nil (λ (access : Access). IsNumberOf net.places access.place));
+        accesses = is.accesses;
       }
 
   header_place : (scope : ℕ) (inst : LoopInst) → item_at scope net.loops ≡ Some inst →

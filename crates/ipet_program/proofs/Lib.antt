@@ -39,3 +39,8 @@ pub mod PlaceFlow
 pub mod TurnsAt
 pub mod PlaceCaps
 pub mod Caps
+pub mod ArcRows
+pub mod RoundFrom
+pub mod StageLists
+pub mod StagesCheckable
+pub mod PlainProgram

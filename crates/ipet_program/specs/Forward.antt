@@ -1,10 +1,11 @@
--- Nets without accesses whose places' numbers rise along each arc but the back arcs. They are nested (`nested-forward`
+-- Nets whose places' numbers rise along each arc but the back arcs. They are nested (`nested-forward`
 -- of proofs/ForwardNets.antt).
 use Rattle.std.specs.Prelude.{◌≡◌, ℕ, ◌<◌, ◌≤◌, ◌⊎◌, List, [], length, Some, All}
 use Rattle.flow_net.specs.Entering.{IsOutside}
 use Rattle.flow_net.specs.Nested.{IsBack}
 use Rattle.flow_net.specs.Numbers.{IsNumberOf, IsNumberOrZero, item_at}
 use Rattle.flow_net.specs.Scopes.{HasScopes, Holds}
+use Rattle.flow_net.specs.declared.net.Access.{Access}
 use Rattle.flow_net.specs.declared.net.LoopInst.{LoopInst}
 use Rattle.flow_net.specs.declared.net.Net.{Net}
 use Rattle.flow_net.specs.declared.net.NetArc.{NetArc}
@@ -59,4 +60,4 @@ pub record IsForward (net : Net) : Type 0 where
   pub loops : EachItem (IsForwardLoop net) (length net.loops) net.loops
   pub arcs : EachItem (IsForwardArc net) (length net.arcs) net.arcs
   pub left : IsLeft net.arcs
-  pub accesses : net.accesses ≡ []
+  pub accesses : All (λ (access : Access). IsNumberOf net.places access.place) net.accesses

@@ -3,7 +3,7 @@
 ghost use Rattle.std.specs.Prelude.{◌≡◌, ◌<◌, ◌≤◌, ◌+◌, false, [], All, length};
 ghost use Rattle.std.specs.Bool.{OnTrue};
 ghost use Rattle.flow_net.specs.Nested.{IsBack, IsNested};
-ghost use Rattle.flow_net.specs.Numbers.{IsNumberOrZero};
+ghost use Rattle.flow_net.specs.Numbers.{IsNumberOf, IsNumberOrZero};
 ghost use Rattle.flow_net.specs.Scopes.{HasScopes, Holds};
 ghost use Rattle.ipet_program.specs.Forward.{EachItem, EntersAt, IsForwardArc, IsForwardLoop, IsForwardPlace, IsLeft, IsReached};
 ghost use Rattle.flow_net.specs.declared.net.LoopInst.{LoopInst};
@@ -195,16 +195,31 @@ fn are_arcs(net: &Net) -> bool
     true
 }
 
-/// Whether the net is of this kind, small, and has no accesses.
+/// Whether each access is made at a place of the net.
+fn have_places(net: &Net) -> bool
+    ensures places { OnTrue result (All (λ access. IsNumberOf net.now.places access.place) net.now.accesses) }
+{
+    for access in net.accesses.as_slice() {
+        if access.place == 0 || access.place as usize > net.places.as_slice().len() {
+            return false;
+        }
+    }
+    true
+}
+
+/// Whether the net is of this kind, and small.
 pub fn is_forward(net: &Net) -> bool
     ensures nested { OnTrue result (IsNested net.now) }
-    ensures accesses { OnTrue result (net.now.accesses ≡ []) }
+    ensures made { OnTrue result (length net.now.accesses ≤ 1000) }
     ensures few { OnTrue result (length net.now.arcs ≤ 1000) }
 {
-    if !net.accesses.as_slice().is_empty() {
+    if net.accesses.as_slice().len() > 1000 {
         return false;
     }
     if net.arcs.as_slice().len() > 1000 {
+        return false;
+    }
+    if !have_places(net) {
         return false;
     }
     if !has_scopes(net) {

@@ -2,9 +2,12 @@
 #![tactic(auto)]
 
 mod adding;
+mod arc_rows;
 mod arcs;
 mod assemble;
 mod certificate;
+#[cfg(test)]
+mod class_rows;
 mod counts;
 mod crude;
 mod fault;
@@ -22,6 +25,11 @@ mod program;
 mod rows;
 mod shows;
 mod split;
+mod stage_rows;
+#[cfg(test)]
+mod stage_tests;
+mod stages;
+mod staging;
 #[cfg(test)]
 mod standing;
 #[cfg(test)]

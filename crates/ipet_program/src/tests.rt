@@ -1,36 +1,42 @@
 //! Programs of small nets, with every row, value and cap worked out by hand.
 
+use crate::class_rows::has_rows;
 use crate::forward::is_forward;
 use crate::standing::fits_image;
 use crate::{BuildFault, Program, build};
 use cache_config::Profile;
 use elf_mips::{Image, read_image};
-use flow_net::{ClassTable, Context, LoopInst, Net, NetArc, Place};
+use flow_net::{Access, ClassTable, Context, Level2, LoopInst, Net, NetArc, Place, Role};
 use std::alloc::{AllocError, Global};
 use std::test::Fail;
 use wcet_io::List;
 
 /// Where the code begins.
-const START: u32 = 0x0040_0000;
+pub const START: u32 = 0x0040_0000;
 
 /// addiu $8, $0, 5; addiu $8, $8, -1; bne $8, $0, back to the second; nop; jr $31; nop. An addiu costs
 /// 11 cycles, and the bne and the jr with their nops 22.
-const COUNTED: [u32; 6] = [0x2408_0005, 0x2508_FFFF, 0x1500_FFFE, 0, 0x03E0_0008, 0];
+pub const COUNTED: [u32; 6] = [0x2408_0005, 0x2508_FFFF, 0x1500_FFFE, 0, 0x03E0_0008, 0];
 
 /// A row: whether it is an equation, its terms, and its right side.
-type Line<'a> = (bool, &'a [(u32, i64)], i64);
+pub type Line<'a> = (bool, &'a [(u32, i64)], i64);
 
-/// A net: the addresses of its places with their scopes, its arcs, and the headers, bounds and outer
-/// scopes of its loops.
+/// A net: the addresses of its places with their scopes, its arcs, the headers, bounds and outer scopes of
+/// its loops, and the places of its accesses, each with its row of the class table.
 #[derive(Drop)]
-struct Plan<'a> {
-    places: &'a [(u32, u32)],
-    arcs: &'a [(u32, u32)],
-    loops: &'a [(u32, u32, u32)],
+pub struct Plan<'a> {
+    pub places: &'a [(u32, u32)],
+    pub arcs: &'a [(u32, u32)],
+    pub loops: &'a [(u32, u32, u32)],
+    pub accesses: &'a [(u32, Role, &'a [Level2])],
 }
 
 /// The image of a big-endian MIPS I executable of these words.
-fn image_of(alloc: Global, words: &[u32; 6]) -> Result<Image, Fail> {
+fn image_of(alloc: Global, words: &[u32]) -> Result<Image, Fail> {
+    if words.len() > 100 {
+        return Err("too many words".into());
+    }
+    let size = 4 * words.len() as u32;
     let mut file = Vec::new(alloc);
     let head = [
         0x7F45_4C46,
@@ -49,12 +55,12 @@ fn image_of(alloc: Global, words: &[u32; 6]) -> Result<Image, Fail> {
     ];
     for word in head
         .iter()
-        .chain(&[1, 84, START, START, 24, 24, 5, 4])
+        .chain(&[1, 84, START, START, size, size, 5, 4])
         .chain(words)
     {
         file.extend_from_slice(&word.to_be_bytes())?;
     }
-    if file.len() != 108 {
+    if file.len() > 1000 {
         return Err("a file of another length".into());
     }
     Ok(read_image(alloc, &file)?)
@@ -86,6 +92,13 @@ fn net_of(alloc: Global, plan: &Plan) -> Result<Net, AllocError> {
             to: *to,
         })?;
     }
+    for (place, role, _) in plan.accesses {
+        net.accesses.push(Access {
+            place: *place,
+            role: *role,
+            at: START,
+        })?;
+    }
     for (header, bound, outer) in plan.loops {
         net.loops.push(LoopInst {
             header: *header,
@@ -96,22 +109,43 @@ fn net_of(alloc: Global, plan: &Plan) -> Result<Net, AllocError> {
     Ok(net)
 }
 
-/// The program of a net of the counted loop's code, under the plain profile.
-fn built(alloc: Global, plan: &Plan) -> Result<Result<Program, BuildFault>, Fail> {
-    let image = image_of(alloc, &COUNTED)?;
+/// The class table of the rows of a plan's accesses.
+fn classes_of(alloc: Global, plan: &Plan) -> Result<ClassTable, AllocError> {
+    let mut rows = List::new(alloc);
+    for (_, _, entries) in plan.accesses {
+        let mut row = Vec::new(alloc);
+        row.extend_from_slice(entries)?;
+        rows.push(List::from_vec(row))?;
+    }
+    Ok(ClassTable { rows })
+}
+
+/// The program of a net of this code, under a profile.
+pub fn built_under(
+    alloc: Global,
+    words: &[u32],
+    plan: &Plan,
+    profile: &Profile,
+) -> Result<Result<Program, BuildFault>, Fail> {
+    let image = image_of(alloc, words)?;
     let net = net_of(alloc, plan)?;
+    let classes = classes_of(alloc, plan)?;
     if !is_forward(&net) || !fits_image(&image, &net) {
         return Err("a net of another kind".into());
     }
-    let classes = ClassTable {
-        rows: List::new(alloc),
-    };
-    let profile = Profile::plain(alloc);
-    Ok(build(alloc, &net, &classes, &profile, &image))
+    if !has_rows(&net, profile, &classes) {
+        return Err("a class table of another kind".into());
+    }
+    Ok(build(alloc, &net, &classes, profile, &image))
+}
+
+/// The program of a net of the counted loop's code, under the plain profile.
+fn built(alloc: Global, plan: &Plan) -> Result<Result<Program, BuildFault>, Fail> {
+    built_under(alloc, &COUNTED, plan, &Profile::plain(alloc))
 }
 
 /// Whether the program has these rows.
-fn has_rows(program: &Program, lines: &[Line]) -> bool {
+pub fn are_rows(program: &Program, lines: &[Line]) -> bool {
     let rows = program.rows.as_slice();
     if rows.len() != lines.len() {
         return false;
@@ -145,6 +179,7 @@ fn builds_the_counted_loop(rt: HostRuntime) -> Result<(), Fail> {
             places: &[(START, 0), (START + 4, 1), (START + 8, 1), (START + 16, 0)],
             arcs: &[(0, 1), (1, 2), (2, 3), (3, 2), (3, 4), (4, 0)],
             loops: &[(2, bound, 0)],
+            accesses: &[],
         };
         let program = built(rt.alloc(), &plan)??;
         let lines: [Line; 6] = [
@@ -155,7 +190,7 @@ fn builds_the_counted_loop(rt: HostRuntime) -> Result<(), Fail> {
             (true, &[(5, 1), (6, -1)], 0),
             (false, &[(2, entering), (4, 1)], 0),
         ];
-        assert!(rt; has_rows(&program, &lines));
+        assert!(rt; are_rows(&program, &lines));
         let turns = u64::from(bound);
         let caps = [1, 1, turns, turns, turns, 1];
         assert!(rt; has_arcs(&program, &[11, 11, 22, 11, 22, 0], &caps));
@@ -180,6 +215,7 @@ fn leaves_out_what_cancels(rt: HostRuntime) -> Result<(), Fail> {
             (1, 0),
         ],
         loops: &[(1, 4_294_967_295, 0)],
+        accesses: &[],
     };
     let program = built(rt.alloc(), &plan)??;
     let own = [(1, 1), (3, -1), (4, -1), (5, -1), (6, 1), (7, 1), (8, -1)];
@@ -191,7 +227,7 @@ fn leaves_out_what_cancels(rt: HostRuntime) -> Result<(), Fail> {
         (true, &[(5, 1)], 0),
         (false, &[(1, -4_294_967_294), (2, 1), (6, 1), (7, 1)], 0),
     ];
-    assert!(rt; has_rows(&program, &lines));
+    assert!(rt; are_rows(&program, &lines));
     let most = 4_294_967_295;
     let caps = [1, most, most, most, most, most, most, most];
     assert!(rt; has_arcs(&program, &[11, 11, 11, 11, 11, 11, 11, 0], &caps));
@@ -205,6 +241,7 @@ fn takes_in_what_comes_from_within(rt: HostRuntime) -> Result<(), Fail> {
         places: &[(START, 1), (START, 2), (START, 3)],
         arcs: &[(0, 1), (1, 2), (1, 0), (2, 1), (2, 3), (3, 2), (3, 3)],
         loops: &[(1, 3, 0), (2, 3, 1), (3, 3, 2)],
+        accesses: &[],
     };
     let program = built(rt.alloc(), &plan)??;
     let lines: [Line; 7] = [
@@ -216,7 +253,7 @@ fn takes_in_what_comes_from_within(rt: HostRuntime) -> Result<(), Fail> {
         (false, &[(2, -2), (6, 1)], 0),
         (false, &[(5, -2), (7, 1)], 0),
     ];
-    assert!(rt; has_rows(&program, &lines));
+    assert!(rt; are_rows(&program, &lines));
     let caps = [1, 3, 3, 9, 9, 27, 27];
     assert!(rt; has_arcs(&program, &[11, 11, 0, 11, 11, 11, 11], &caps));
     Ok(())
@@ -241,6 +278,7 @@ fn nest(alloc: Global, depth: u8, bound: u32) -> Result<Result<Program, BuildFau
         places: &places,
         arcs: &arcs,
         loops: &loops,
+        accesses: &[],
     };
     built(alloc, &plan)
 }

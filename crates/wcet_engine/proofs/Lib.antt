@@ -16,4 +16,5 @@ pub mod Uncached
 pub mod Told
 pub mod Solved
 pub mod Certified
+pub mod Unclassified
 pub mod ProgramLoops

@@ -18,13 +18,13 @@ use Rattle.cache_config.specs.Instructions.{costs_of, cycles_of, stages_of, stag
 use Rattle.net_model.specs.declared.unit.Content.{Content}
 use Rattle.net_model.specs.declared.unit.Content.TheVariants.{Unit as Stands, Fault}
 use Rattle.net_model.specs.Units.{content_at}
-use Rattle.ipet_program.specs.Programs.{place_price, price_at}
-use Rattle.ipet_program.specs.Costs.{content_cost, first_stage, first_stages, own_cost, slot_cost, store_latency}
+use Rattle.ipet_program.specs.Programs.{full_at, full_price}
+use Rattle.ipet_program.specs.Costs.{all_stages, content_full, own_cost, slot_cost, store_latency}
 use Rattle.flow_net.specs.declared.net.Access.{Access}
 use Rattle.net_model.specs.Accesses.{kind_of, unit_accesses}
 use Rattle.mips_decode.specs.declared.step.AccessKind.{AccessKind}
 use Rattle.mips_decode.specs.declared.step.AccessKind.TheVariants.{Fetch, Slot, Load as Loading, Store as Storing}
-use Rattle.std.specs.Prelude.{slice_index_or}
+use Rattle.std.specs.Prelude.{sum_by}
 use Rattle.std.proofs.lemmas.List.Sums.{sum_by-cons}
 
 -- Two profiles with the same costs: those of memory, of stores and of the caches of each chain, and the cycles of each
@@ -74,34 +74,34 @@ stages-same profile other Slot same = stages-through profile other side.Fetch sa
 stages-same profile other Loading same = stages-through profile other side.Load same
 stages-same profile other Storing same = refl
 
-first_stages-same : (profile other : Profile) (accesses : List Access) → HaveSameCosts profile other →
-    first_stages (costs_of profile) accesses ≡ first_stages (costs_of other) accesses
-first_stages-same profile other [] same = refl
-first_stages-same profile other (access ∷ more) same =
-    let rest = first_stages-same profile other more same in
-    let first : first_stage (costs_of profile) access ≡ first_stage (costs_of other) access =
-    ap (λ (stages : List ℕ). slice_index_or stages 0 0) (stages-same profile other (kind_of access.role) same) in
-    let left = sum_by-cons (first_stage (costs_of profile)) access more in
-    let right = sum_by-cons (first_stage (costs_of other)) access more in
+all_stages-same : (profile other : Profile) (accesses : List Access) → HaveSameCosts profile other →
+    sum_by (all_stages (costs_of profile)) accesses ≡ sum_by (all_stages (costs_of other)) accesses
+all_stages-same profile other [] same = refl
+all_stages-same profile other (access ∷ more) same =
+    let rest = all_stages-same profile other more same in
+    let first : all_stages (costs_of profile) access ≡ all_stages (costs_of other) access =
+    ap (λ (stages : List ℕ). sum_by (λ (latency : ℕ). latency) stages) (stages-same profile other (kind_of access.role) same) in
+    let left = sum_by-cons (all_stages (costs_of profile)) access more in
+    let right = sum_by-cons (all_stages (costs_of other)) access more in
     omega (arith, rest, first, left, right)
 
-content-same : (profile other : Profile) (number : ℕ) (content : Content) (address : ℕ) → HaveSameCosts profile other →
-    content_cost (costs_of profile) number content address ≡ content_cost (costs_of other) number content address
-content-same profile other number (Stands unit) address same =
+full-content : (profile other : Profile) (number : ℕ) (content : Content) (address : ℕ) → HaveSameCosts profile other →
+    content_full (costs_of profile) number content address ≡ content_full (costs_of other) number content address
+full-content profile other number (Stands unit) address same =
     omega (
       arith,
       own-same profile other unit.instr same,
       slot-same profile other unit.slot same,
-      first_stages-same profile other (unit_accesses number unit address) same,
+      all_stages-same profile other (unit_accesses number unit address) same,
     )
-content-same profile other number (Fault kind place) address same = refl
+full-content profile other number (Fault kind place) address same = refl
 
-at-same : (image : Image) (profile other : Profile) (number : ℕ) (place : Option Place) → HaveSameCosts profile other →
-    price_at profile image number place ≡ price_at other image number place
-at-same image profile other number None same = refl
-at-same image profile other number (Some place) same =
-    content-same profile other number (content_at image place.address) place.address same
+full-at : (image : Image) (profile other : Profile) (number : ℕ) (place : Option Place) → HaveSameCosts profile other →
+    full_at profile image number place ≡ full_at other image number place
+full-at image profile other number None same = refl
+full-at image profile other number (Some place) same =
+    full-content profile other number (content_at image place.address) place.address same
 
-pub same-price : (image : Image) (profile other : Profile) (net : Net) → HaveSameCosts profile other →
-    place_price profile image net ≡ place_price other image net
-same-price image profile other net same = fun_ext (λ number. at-same image profile other number (item_at number net.places) same)
+pub same-full : (image : Image) (profile other : Profile) (net : Net) → HaveSameCosts profile other →
+    full_price profile image net ≡ full_price other image net
+same-full image profile other net same = fun_ext (λ number. full-at image profile other number (item_at number net.places) same)

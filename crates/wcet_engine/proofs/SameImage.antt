@@ -10,8 +10,8 @@ use Rattle.elf_mips.specs.Segments.{code_at, is_writable_word}
 use Rattle.flow_net.specs.Numbers.{item_at}
 use Rattle.flow_net.specs.declared.net.Net.{Net}
 use Rattle.flow_net.specs.declared.net.Place.{Place}
-use Rattle.ipet_program.specs.Costs.{content_cost}
-use Rattle.ipet_program.specs.Programs.{crude_limit, crude_of, place_price, price_at}
+use Rattle.ipet_program.specs.Costs.{content_full}
+use Rattle.ipet_program.specs.Programs.{crude_limit, crude_of, full_at, full_price}
 use Rattle.mips_decode.specs.Step.{fetched}
 use Rattle.net_model.specs.declared.unit.CodeKind.{CodeKind}
 use Rattle.net_model.specs.declared.unit.CodeKind.TheVariants as code
@@ -23,7 +23,7 @@ use Rattle.net_model.proofs.SameNets.{irreducible-same, net-same, unbounded-same
 use Rattle.loop_nest.specs.Programs.{IsIrreducibleIn, IsUnboundedIn}
 use Rattle.wcet_engine.specs.declared.refusal.RefusalKind.{RefusalKind}
 use Rattle.wcet_engine.specs.ProgramFaults.{IsCodeFault, IsTooLarge, IsTooMany, OffendsIn}
-use Rattle.wcet_engine.proofs.SameCosts.{HaveSameCosts, same-price}
+use Rattle.wcet_engine.proofs.SameCosts.{HaveSameCosts, same-full}
 
 -- Two images with the same segments and records.
 pub record IsSame (a b : Image) : Type 0 where
@@ -49,14 +49,14 @@ content-same a b address same =
 code-of : (a b : Image) → IsSame a b → IsSameCode a b
 code-of a b same = record { contents = λ address. content-same a b address same; marks = same.marks }
 
-price_at-same : (a b : Image) (profile : Profile) (number : ℕ) (place : Option Place) → IsSame a b →
-    price_at profile a number place ≡ price_at profile b number place
-price_at-same a b profile number None same = refl
-price_at-same a b profile number (Some place) same =
-    ap (λ (c : Content). content_cost (costs_of profile) number c place.address) (content-same a b place.address same)
+full_at-same : (a b : Image) (profile : Profile) (number : ℕ) (place : Option Place) → IsSame a b →
+    full_at profile a number place ≡ full_at profile b number place
+full_at-same a b profile number None same = refl
+full_at-same a b profile number (Some place) same =
+    ap (λ (c : Content). content_full (costs_of profile) number c place.address) (content-same a b place.address same)
 
-price-same : (a b : Image) (profile : Profile) (net : Net) → IsSame a b → place_price profile a net ≡ place_price profile b net
-price-same a b profile net same = fun_ext (λ number. price_at-same a b profile number (item_at number net.places) same)
+full-same : (a b : Image) (profile : Profile) (net : Net) → IsSame a b → full_price profile a net ≡ full_price profile b net
+full-same a b profile net same = fun_ext (λ number. full_at-same a b profile number (item_at number net.places) same)
 
 -- What is said of the program of an image holds of that of another one that is the same so far.
 cycle-same : (a b : Image) (entry place : ℕ) → IsSame a b → IsIrreducibleIn a entry place → IsIrreducibleIn b entry place
@@ -86,7 +86,7 @@ fault-same a b entry code.Recursion place same fault = offends-same a b (code-of
 large-same : (a b : Image) (profile other : Profile) (entry : ℕ) → IsSame a b → HaveSameCosts profile other →
     IsTooLarge a profile entry → IsTooLarge b other entry
 large-same a b profile other entry same costs is =
-    let price = price-same a b profile is.net same ∙ same-price b profile other is.net costs in
+    let price = full-same a b profile is.net same ∙ same-full b profile other is.net costs in
     record {
       net = is.net;
       is_net = net-same a b entry is.net (code-of a b same) is.is_net;

@@ -48,12 +48,11 @@ fitting : (image : Image) (profile : Profile) (entry : ℕ) (net : Net) (certifi
     Certifies image profile net certificate → IsTooLarge image profile entry → ⊥
 fitting image profile entry net certificate is certifies large =
     let same : large.net ≡ net = net-once image entry large.net net large.is_net is.is_net in
-    let program = certifies.is in
     let above = subst (IsLargeNet image profile) same large.large in
-    let low = program.low in
+    let low = certifies.low in
     omega (arith, above, low)
 
-without-caches : (levels : List Level) → (0 < length levels → ⊥) → levels ≡ []
+pub without-caches : (levels : List Level) → (0 < length levels → ⊥) → levels ≡ []
 without-caches [] built = refl
 without-caches (level ∷ levels) built = absurd (built (omega arith))
 

@@ -8,7 +8,7 @@ use Rattle.elf_mips.specs.declared.image.Image.{Image}
 use Rattle.flow_net.specs.declared.net.Net.{Net}
 use Rattle.ipet_program.specs.Certificates.{IsValid}
 use Rattle.ipet_program.specs.Counts.{IsFeasible, value_of}
-use Rattle.ipet_program.specs.Programs.{IsProgramOf, crude_limit, crude_of, place_price}
+use Rattle.ipet_program.specs.Programs.{IsProgramOf, crude_limit, crude_of, full_price, place_price}
 use Rattle.ipet_program.specs.declared.program.Program.{Program}
 use Rattle.loop_nest.specs.Programs.{IsIrreducibleIn, IsUnboundedIn}
 use Rattle.net_model.specs.declared.unit.CodeKind.{CodeKind}
@@ -43,9 +43,10 @@ pub record IsTooMany (image : Image) (entry : ℕ) : Type 0 where
   pub sizes : AreSizes image entry contexts places
   pub many : AreTooMany contexts places
 
--- The crude bound of a net is above its limit: the price of each place, times the bounds of the loops that hold it.
+-- The crude bound of a net is above its limit: what each place costs with all stages of its accesses, times the bounds of
+-- the loops that hold it.
 abbrev pub IsLargeNet : Image → Profile → Net → Type 0
-IsLargeNet image profile net = crude_limit < crude_of net (place_price profile image net)
+IsLargeNet image profile net = crude_limit < crude_of net (full_price profile image net)
 
 -- The crude bound of the program's net is above its limit.
 pub record IsTooLarge (image : Image) (profile : Profile) (entry : ℕ) : Type 0 where

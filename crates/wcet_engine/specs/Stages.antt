@@ -1,5 +1,5 @@
 -- What the stages of an analysis say of an image.
-use Rattle.std.specs.Prelude.{◌≡◌, ℕ, ◌≤◌, ◌⊎◌, length}
+use Rattle.std.specs.Prelude.{◌≡◌, ℕ, ◌^◌, ◌≤◌, ◌⊎◌, length}
 use Rattle.cache_config.specs.declared.profile.Profile.{Profile}
 use Rattle.call_contexts.specs.Programs.{HasNoReturn}
 use Rattle.call_contexts.specs.Sizes.{AreSizes, most_contexts, most_places}
@@ -7,7 +7,7 @@ use Rattle.elf_mips.specs.declared.image.Image.{Image}
 use Rattle.flow_net.specs.Nested.{IsNested}
 use Rattle.flow_net.specs.declared.net.Net.{Net}
 use Rattle.ipet_program.specs.Certificates.{IsValid}
-use Rattle.ipet_program.specs.Programs.{IsCheckable, IsProgramOf, place_price}
+use Rattle.ipet_program.specs.Programs.{IsCheckable, IsProgramOf, crude_limit, crude_of, full_price, place_price}
 use Rattle.ipet_program.specs.declared.certificate.Certificate.{Certificate}
 use Rattle.ipet_program.specs.declared.program.Program.{Program}
 use Rattle.nest_solver.specs.Tables.{IsFew}
@@ -40,6 +40,7 @@ pub record IsNetOf (image : Image) (entry : ℕ) (net : Net) : Type 0 where
   pub nested : IsNested net
   pub units : HasUnits image net
   pub few : IsFew net
+  pub arcs : length net.arcs ≤ 2 ^ 25
   pub contexts : length net.contexts ≤ most_contexts
   pub places : length net.places ≤ most_places
   pub sizes : AreSizes image entry (length net.contexts) (length net.places)
@@ -50,6 +51,8 @@ pub record IsNetOf (image : Image) (entry : ℕ) (net : Net) : Type 0 where
 pub record Certifies (image : Image) (profile : Profile) (net : Net) (certificate : Certificate) : Type 0 where
   pub program : Program
   pub is : IsProgramOf net (place_price profile image net) program
+  -- Its crude bound with all stages keeps its limit.
+  pub low : crude_of net (full_price profile image net) ≤ crude_limit
   pub checkable : IsCheckable program
   pub valid : IsValid program certificate
   pub reached : certificate.reached ≡ certificate.bound

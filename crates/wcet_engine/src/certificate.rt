@@ -1,6 +1,6 @@
 //! The certificate of a net.
 
-ghost use Rattle.std.specs.Prelude.{◌≡◌, ◌≤◌, IfErr, IfOk};
+ghost use Rattle.std.specs.Prelude.{◌≡◌, ◌≤◌, [], IfErr, IfOk};
 ghost use Rattle.flow_net.specs.Nested.{IsNested};
 ghost use Rattle.ipet_program.specs.Certificates.{IsValid};
 ghost use Rattle.ipet_program.specs.Programs.{HasRows, IsCheckable, crude_limit};
@@ -9,6 +9,7 @@ ghost use Rattle.nest_solver.specs.Answers.{ShowsGreatest};
 ghost use Rattle.nest_solver.specs.Nets.{IsProgramOfNet};
 ghost use Rattle.nest_solver.specs.Tables.{IsFew};
 ghost use Rattle.wcet_engine.specs.Certificates.{IsOneLeaf};
+ghost use Rattle.wcet_engine.specs.FileFaults.{IsUnbuilt};
 ghost use Rattle.wcet_engine.specs.Stages.{Certifies, IsNetOf, TellsTooLarge};
 
 use crate::analysis::Refused;
@@ -60,7 +61,7 @@ fn certificate_of(alloc: Global, program: &Program, net: &Net) -> Result<Certifi
 
 /// A class table with a row for each access of a net. Without caches each chain is empty, and so is each row.
 fn unclassified(alloc: Global, net: &Net) -> Result<ClassTable, AllocError>
-    ensures { IfOk result (HasRows net.now) }
+    ensures { IfOk result (HasRows net.now []) }
 {
     let mut rows = List::new(alloc);
     for _access in net.accesses.as_slice() {
@@ -69,7 +70,7 @@ fn unclassified(alloc: Global, net: &Net) -> Result<ClassTable, AllocError>
     Ok(ClassTable { rows })
 }
 
-/// The certificate of the program of a net.
+/// The certificate of the program of a net, under a profile without caches.
 ///
 /// `Fault` says that the crude bound is too large.
 pub fn certify(
@@ -79,7 +80,8 @@ pub fn certify(
     entry: u32,
     net: &Net,
 ) -> Result<Certificate, Refused>
-    requires { IsNetOf image.now entry net.now }
+    requires net { IsNetOf image.now entry net.now }
+    requires built { IsUnbuilt profile.now → ⊥ }
     ensures certifies { IfOk result (Certifies image.now profile.now net.now) }
     ensures large { IfErr result (TellsTooLarge image.now profile.now entry) }
 {

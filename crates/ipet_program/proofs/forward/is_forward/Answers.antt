@@ -1,7 +1,5 @@
 -- A net of this kind is nested.
 use Rattle.std.proofs.Common.{◌<◌, List, length, All, subst, sym, ◌∙◌}
-use Rattle.std.proofs.lemmas.Bool.Decides.{Decides-eqb}
-use Rattle.std.proofs.lemmas.List.{nil_from_length}
 use Rattle.flow_net.specs.declared.net.Context.{Context}
 use Rattle.ipet_program.specs.Forward.{IsLeft}
 use Rattle.ipet_program.proofs.ForwardNets.{nested-forward}
@@ -19,6 +17,5 @@ returns-clause-nested c =
       loops = c.if-not-are_loops.ensures.loops;
       arcs = c.if-not-are_arcs.ensures.arcs;
       left = subst IsLeft c.as_slice-4.ensures c.if-not-is_left.ensures.left;
-      accesses = sym c.as_slice.ensures ∙ nil_from_length c.as_slice.result.now
-          ((Decides-eqb (length c.as_slice.result.now) 0).0 (sym c.is_empty.ensures ∙ c.if-not-is_empty.false));
+      accesses = c.if-not-have_places.ensures.places;
     })

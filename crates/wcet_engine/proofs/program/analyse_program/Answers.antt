@@ -41,8 +41,8 @@ returns-in_err-net-clause-refused c =
     rw (p.1, p.2) (tells-net image c.args.profile.now c.args.entry _
     (code-faultless image c.args.entry c.in_ok-graphs.graphs c.in_ok-nests.nests is) (c.in_err-net.ensures.bad image is))
 
-pub certify-requires : goal.certify-requires
-certify-requires c =
+pub certify-requires-clause-net : goal.certify-requires-clause-net
+certify-requires-clause-net c =
     let image = c.args.image.now in
     let is : IsProgram image c.args.entry c.in_ok-graphs.graphs c.in_ok-nests.nests = record {
       graphs_are = c.in_ok-graphs.ensures.graphs;

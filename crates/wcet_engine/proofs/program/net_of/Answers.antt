@@ -14,6 +14,7 @@ returns-in-Ok-clause-net c = λ image is.
       nested = e.nested;
       units = e.units image c.args.entry is;
       few = few-of image c.args.entry c.in-Ok.net net e.few e.places;
+      arcs = e.few;
       contexts = e.contexts;
       places = e.places;
       sizes = e.sizes image c.args.entry is;
