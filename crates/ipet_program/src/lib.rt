@@ -14,12 +14,14 @@ mod growing;
 mod leaf;
 #[cfg(test)]
 mod leaf_tests;
+mod leaves;
 mod loops;
 mod places;
 mod price;
 mod prices;
 mod program;
 mod rows;
+mod rules;
 mod shows;
 mod split;
 #[cfg(test)]
@@ -32,7 +34,7 @@ pub use assemble::build;
 pub use certificate::{Certificate, Count, Node};
 pub use counts::are_counts;
 pub use fault::BuildFault;
-pub use leaf::{Leaf, Side2, Weight};
+pub use leaf::{Leaf, LeafFault, Side2, Weight};
+pub use leaves::{leaf_fault, least_bound, shows_leaf};
 pub use program::{Program, Row, Stage, Term};
-pub use shows::shows_leaf;
 pub use split::{first_part, second_part};
