@@ -15,6 +15,7 @@ pub mod WeightLemmas
 pub mod RuleLemmas
 pub mod ShowLemmas
 pub mod LeastLemmas
+pub mod RangeLemmas
 pub mod ListedLemmas
 pub mod TestLemmas
 pub mod FlowSums

@@ -37,4 +37,4 @@ pub use fault::BuildFault;
 pub use leaf::{Leaf, LeafFault, Side2, Weight};
 pub use leaves::{leaf_fault, least_bound, shows_leaf};
 pub use program::{Program, Row, Stage, Term};
-pub use split::{first_part, second_part};
+pub use split::{Range, first_part, is_parted, is_split, narrowed, second_part, whole_range};
