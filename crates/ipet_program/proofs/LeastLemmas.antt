@@ -30,13 +30,13 @@ quotient-least d s other low below =
     elim (dec s d other) as (λ _. s / d ≤ other) [
       | inl le ↦ le
       | inr above ↦ absurd (
-      let most : d * (s / d) ≤ s = mul-div-le s d in
-      let order : d * (other + 1) ≤ d * (s / d) = mul-le-mul_left d above in
-      omega (arith, ints)
-      )
+          let most : d * (s / d) ≤ s = mul-div-le s d in
+          let order : d * (other + 1) ≤ d * (s / d) = mul-le-mul_left d above in
+          omega (arith, ints)
+          )
     ] where
-  dec : (s d other : ℕ) → (s / d ≤ other) ⊎ (other + 1 ≤ s / d)
-  dec s d other = grind arith
+      dec : (s d other : ℕ) → (s / d ≤ other) ⊎ (other + 1 ≤ s / d)
+      dec s d other = grind arith
 
 pub first-quotient : (denom side : ℤ) (size s : ℕ) → pos 1 ≤ℤ denom → side ≡ pos s → size ≡ unsigned_abs denom →
     IsFirst false denom side (s / size)

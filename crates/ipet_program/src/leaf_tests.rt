@@ -3,7 +3,10 @@
 ghost use Rattle.std.specs.Prelude.{◌≡◌, ◌<◌, ◌≤◌, IfOk, pos, unsigned_abs};
 ghost use Rattle.ipet_program.specs.Programs.{IsCheckable, IsSmallRow};
 
-use crate::{Count, Leaf, Program, Row, Side2, Term, Weight, are_counts, shows_leaf};
+use crate::{
+    Count, Leaf, LeafFault, Program, Row, Side2, Term, Weight, are_counts, is_split, leaf_fault,
+    least_bound, shows_leaf,
+};
 use std::alloc::{AllocError, Global};
 use std::test::Fail;
 use wcet_io::List;
@@ -84,6 +87,21 @@ fn two(alloc: Global, empty: bool, first: Weight, second: Weight) -> Result<Leaf
     })
 }
 
+/// A leaf of three multipliers that shows a bound.
+fn three(alloc: Global, first: Weight, second: Weight, third: Weight) -> Result<Leaf, AllocError>
+    requires rising { (first.row < second.row) × (second.row < third.row) }
+    requires first { first.times ≡ pos 0 → ⊥ }
+    requires second { second.times ≡ pos 0 → ⊥ }
+    requires third { third.times ≡ pos 0 → ⊥ }
+{
+    let weights = vec![in alloc; first, second, third]?;
+    Ok(Leaf {
+        denom: 1,
+        empty: false,
+        weights: List::from_vec(weights),
+    })
+}
+
 /// A multiplier.
 fn times(row: u64, times: i128) -> Weight
     ensures row { result.row ≡ row }
@@ -158,6 +176,152 @@ fn leaves_show_that_there_are_no_counts(rt: HostRuntime) -> Result<(), Fail> {
     // A column that gets less than 0.
     let less = two(alloc, true, times(1, -2), times(4, 1))?;
     assert!(rt; !shows_leaf(&program, &cut(0, true), 0, &less, &mut sums));
+    Ok(())
+}
+
+#[test]
+fn rules_of_the_tree_come_first(rt: HostRuntime) -> Result<(), Fail> {
+    let alloc = rt.alloc();
+    let program = program(alloc)?;
+    let mut sums: [i128; 2] = [0, 0];
+    let valid = one(alloc, 1, 1, 5)?;
+    assert_eq!(rt; leaf_fault(&program, &[], 5, &valid, &mut sums), None);
+    // A denominator below 1, a row that isn't there, and the row with <= a negative number of times.
+    let zero = one(alloc, 0, 1, 5)?;
+    assert_eq!(rt;
+        leaf_fault(&program, &[], 5, &zero, &mut sums),
+        Some(LeafFault::Tree)
+    );
+    let absent = one(alloc, 1, 4, 5)?;
+    assert_eq!(rt;
+        leaf_fault(&program, &[], 5, &absent, &mut sums),
+        Some(LeafFault::Tree)
+    );
+    let negative = two(alloc, false, times(1, 5), times(3, -1))?;
+    assert_eq!(rt;
+        leaf_fault(&program, &[], 9, &negative, &mut sums),
+        Some(LeafFault::Tree)
+    );
+    // A sum that doesn't fit stands before the row that isn't there.
+    let both = three(alloc, times(1, i128::MAX), times(2, 1), times(4, 1))?;
+    assert_eq!(rt;
+        leaf_fault(&program, &[], 9, &both, &mut sums),
+        Some(LeafFault::Tree)
+    );
+    assert_eq!(rt;
+        leaf_fault(&program, &cut(9, true), 9, &both, &mut sums),
+        Some(LeafFault::Wide)
+    );
+    // The row of a cut has <=, also where the leaf shows that there are no counts.
+    let empty = two(alloc, true, times(1, -1), times(4, -1))?;
+    assert_eq!(rt;
+        leaf_fault(&program, &cut(0, true), 0, &empty, &mut sums),
+        Some(LeafFault::Tree)
+    );
+    Ok(())
+}
+
+#[test]
+fn numbers_fit_before_they_show(rt: HostRuntime) -> Result<(), Fail> {
+    let alloc = rt.alloc();
+    let program = program(alloc)?;
+    let mut sums: [i128; 2] = [0, 0];
+    // The first two parts of column 1 don't fit, all three would.
+    let partial = three(alloc, times(1, i128::MAX), times(2, 1), times(3, 1))?;
+    assert_eq!(rt;
+        leaf_fault(&program, &[], 9, &partial, &mut sums),
+        Some(LeafFault::Wide)
+    );
+    // Five times the denominator doesn't fit; then it does, and six times it doesn't.
+    let great = one(alloc, i128::MAX, 1, 1)?;
+    assert_eq!(rt;
+        leaf_fault(&program, &[], 0, &great, &mut sums),
+        Some(LeafFault::Wide)
+    );
+    let fifth = one(alloc, i128::MAX / 5, 1, 1)?;
+    assert_eq!(rt;
+        leaf_fault(&program, &[], 5, &fifth, &mut sums),
+        Some(LeafFault::Wide)
+    );
+    assert_eq!(rt;
+        leaf_fault(&program, &[], 4, &fifth, &mut sums),
+        Some(LeafFault::Dual)
+    );
+    // Numbers that fit and show nothing: the right side, then the column.
+    let above = one(alloc, 1, 1, 5)?;
+    assert_eq!(rt;
+        leaf_fault(&program, &[], 4, &above, &mut sums),
+        Some(LeafFault::Dual)
+    );
+    let little = one(alloc, 1, 1, 4)?;
+    assert_eq!(rt;
+        leaf_fault(&program, &[], 5, &little, &mut sums),
+        Some(LeafFault::Dual)
+    );
+    // There is a count where column 1 is at most 1.
+    let low = two(alloc, true, times(1, -1), times(4, 1))?;
+    assert_eq!(rt;
+        leaf_fault(&program, &cut(1, true), 0, &low, &mut sums),
+        Some(LeafFault::Dual)
+    );
+    Ok(())
+}
+
+#[test]
+fn bounds_are_the_least(rt: HostRuntime) -> Result<(), Fail> {
+    let alloc = rt.alloc();
+    let program = program(alloc)?;
+    let mut sums: [i128; 2] = [0, 0];
+    // 11 halves are less than 6, and 12 are not.
+    let whole = one(alloc, 1, 1, 5)?;
+    assert_eq!(rt; least_bound(&program, &[], &whole, &mut sums), Some(5));
+    let eleven = one(alloc, 2, 1, 11)?;
+    assert_eq!(rt; least_bound(&program, &[], &eleven, &mut sums), Some(5));
+    let twelve = one(alloc, 2, 1, 12)?;
+    assert_eq!(rt; least_bound(&program, &[], &twelve, &mut sums), Some(6));
+    // The greatest number of 64 bits, and the next one.
+    let greatest = one(alloc, 1, 1, 18_446_744_073_709_551_615)?;
+    assert_eq!(rt;
+        least_bound(&program, &[], &greatest, &mut sums),
+        Some(u64::MAX)
+    );
+    let more = one(alloc, 1, 1, 18_446_744_073_709_551_616)?;
+    assert_eq!(rt; least_bound(&program, &[], &more, &mut sums), None);
+    // No bound makes up for a column that gets too little, nor for a row that isn't there.
+    let little = one(alloc, 1, 1, 4)?;
+    assert_eq!(rt; least_bound(&program, &[], &little, &mut sums), None);
+    let absent = one(alloc, 1, 4, 5)?;
+    assert_eq!(rt; least_bound(&program, &[], &absent, &mut sums), None);
+    // A right side of -1, and a leaf that shows that there are no counts.
+    let below = two(alloc, false, times(1, -1), times(4, 6))?;
+    assert_eq!(rt;
+        least_bound(&program, &cut(0, true), &below, &mut sums),
+        Some(0)
+    );
+    let empty = two(alloc, true, times(1, -1), times(4, 1))?;
+    assert_eq!(rt;
+        least_bound(&program, &cut(0, true), &empty, &mut sums),
+        Some(0)
+    );
+    Ok(())
+}
+
+#[test]
+fn splits_leave_no_part_empty(rt: HostRuntime) -> Result<(), Fail> {
+    let alloc = rt.alloc();
+    let program = program(alloc)?;
+    // The caps are 1.
+    assert!(rt; is_split(&program, &[], 1, 0));
+    assert!(rt; !is_split(&program, &[], 1, 1));
+    // Columns that aren't there.
+    assert!(rt; !is_split(&program, &[], 0, 0));
+    assert!(rt; !is_split(&program, &[], 3, 0));
+    // A cut from above, cuts from below, and those of another column.
+    assert!(rt; !is_split(&program, &cut(0, true), 1, 0));
+    assert!(rt; !is_split(&program, &cut(0, false), 1, 0));
+    assert!(rt; !is_split(&program, &cut(u64::MAX, false), 1, 0));
+    assert!(rt; is_split(&program, &cut(0, true), 2, 0));
+    assert!(rt; is_split(&program, &cut(1, true), 1, 0));
     Ok(())
 }
 

@@ -84,12 +84,7 @@ fn first_bound(leaf: &Leaf, right: i128) -> Option<u64>
 
 /// The least bound under which a leaf is valid under the cuts above it; none where no bound of 64 bits is. A leaf that
 /// shows that there are no counts is valid under each bound. Room, memory and steps are those of `leaf_fault`.
-pub fn least_bound(
-    program: &Program,
-    cuts: &[Side2],
-    leaf: &Leaf,
-    sums: &mut [i128],
-) -> Option<u64>
+pub fn least_bound(program: &Program, cuts: &[Side2], leaf: &Leaf, sums: &mut [i128]) -> Option<u64>
     requires checkable { IsCheckable program.now }
     requires room { program.now.columns ≤ length sums.old }
     ensures least { IfSome result (IsLeastBound program.now cuts.now leaf.now) }

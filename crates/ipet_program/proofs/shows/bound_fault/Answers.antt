@@ -10,8 +10,7 @@ returns-then-not-are_covered-clause-fault c =
     let same = c.as_slice-values.ensures in
     let next = simp to_z-of_z at c.if-not-next_fits.ensures.fits in
     let fit = simp to_z-of_z at c.if-not-values_fit.ensures.fit in
-    let less = simp to_z-of_z at c.if-not-are_covered.ensures.less in
-    (
+    let less = simp to_z-of_z at c.if-not-are_covered.ensures.less in (
       record { next = next; values = subst (ValuesFit c.args.denom) same fit },
       λ shown. less (subst (λ (values : List ℤ). AreCovered c.args.denom values c.args.sums.now) (sym same) shown.covered),
     )
