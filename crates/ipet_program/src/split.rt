@@ -10,7 +10,7 @@ use crate::leaf::Side2;
 use crate::program::Program;
 
 /// The numbers that a column may have under cuts: those from `low` to `high`, and none where `high` is less.
-#[derive(Clone, Copy, Debug, PartialEq, Eq)]
+#[derive(Clone, Copy, Debug)]
 pub struct Range {
     /// 2^64 - 1 also where a cut asks for more.
     pub low: u64,
