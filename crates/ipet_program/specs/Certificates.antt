@@ -28,8 +28,8 @@ cap_or_zero (Some cap) = cap
 abbrev pub high_end : Program → List Side2 → ℕ → ℕ
 high_end program cuts column = cut_high (cap_or_zero (item_at column program.caps)) cuts column
 
--- The range of a column under cuts. A low end above 2^64 - 1 is told as that: a column's counts have 64 bits, so neither
--- is below a high end.
+-- The range of a column under cuts. A low end above 2^64 - 1 is told as that: caps have 64 bits, so neither is below a
+-- high end.
 pub record IsRange (program : Program) (cuts : List Side2) (column : ℕ) (range : Range) : Type 0 where
   pub low : range.low ≡ min (low_end cuts column) (2 ^ 64 - 1)
   pub high : range.high ≡ high_end program cuts column

@@ -62,7 +62,8 @@ pub record SayRight (empty : Bool) (program : Program) (denom : ℤ) (bound : �
   pub shown : ShowSaid empty program denom bound sums side
 
 -- Which of these rules they break first.
-abbrev pub SayWrong : (empty : Bool) → Program → (denom : ℤ) → (bound : ℕ) → (sums : List ℤ) → (side : ℤ) → LeafFault → Type 0
+abbrev pub SayWrong : (empty : Bool) → Program → (denom : ℤ) → (bound : ℕ) → (sums : List ℤ) → (side : ℤ) → LeafFault →
+    Type 0
 SayWrong empty program denom bound sums side Tree = ⊥
 SayWrong empty program denom bound sums side Wide = FitSaid empty program denom bound → ⊥
 SayWrong empty program denom bound sums side Dual =
