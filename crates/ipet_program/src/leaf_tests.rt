@@ -179,43 +179,46 @@ fn leaves_show_that_there_are_no_counts(rt: HostRuntime) -> Result<(), Fail> {
     Ok(())
 }
 
+/// The rule that a leaf breaks first under cuts of the program.
+fn fault_of(
+    alloc: Global,
+    cuts: &[Side2],
+    bound: u64,
+    leaf: &Leaf,
+) -> Result<Option<LeafFault>, AllocError> {
+    let program = program(alloc)?;
+    let mut sums: [i128; 2] = [7, 7];
+    Ok(leaf_fault(&program, cuts, bound, leaf, &mut sums))
+}
+
+/// The least bound that a leaf shows under cuts of the program.
+fn least_of(alloc: Global, cuts: &[Side2], leaf: &Leaf) -> Result<Option<u64>, AllocError> {
+    let program = program(alloc)?;
+    let mut sums: [i128; 2] = [7, 7];
+    Ok(least_bound(&program, cuts, leaf, &mut sums))
+}
+
+/// Whether a split is one of the program under cuts.
+fn splits(alloc: Global, cuts: &[Side2], column: u32, at: u64) -> Result<bool, AllocError> {
+    let program = program(alloc)?;
+    Ok(is_split(&program, cuts, column, at))
+}
+
 #[test]
 fn rules_of_the_tree_come_first(rt: HostRuntime) -> Result<(), Fail> {
     let alloc = rt.alloc();
-    let program = program(alloc)?;
-    let mut sums: [i128; 2] = [0, 0];
-    let valid = one(alloc, 1, 1, 5)?;
-    assert_eq!(rt; leaf_fault(&program, &[], 5, &valid, &mut sums), None);
-    // A denominator below 1, a row that isn't there, and the row with <= a negative number of times.
-    let zero = one(alloc, 0, 1, 5)?;
-    assert_eq!(rt;
-        leaf_fault(&program, &[], 5, &zero, &mut sums),
-        Some(LeafFault::Tree)
-    );
-    let absent = one(alloc, 1, 4, 5)?;
-    assert_eq!(rt;
-        leaf_fault(&program, &[], 5, &absent, &mut sums),
-        Some(LeafFault::Tree)
-    );
+    // Row 3 has <=, and row 4 is that of a cut. The sum of column 1 doesn't fit.
     let negative = two(alloc, false, times(1, 5), times(3, -1))?;
-    assert_eq!(rt;
-        leaf_fault(&program, &[], 9, &negative, &mut sums),
-        Some(LeafFault::Tree)
-    );
-    // A sum that doesn't fit stands before the row that isn't there.
+    assert_eq!(rt; fault_of(alloc, &[], 9, &negative)?, Some(LeafFault::Tree));
     let both = three(alloc, times(1, i128::MAX), times(2, 1), times(4, 1))?;
+    assert_eq!(rt; fault_of(alloc, &[], 9, &both)?, Some(LeafFault::Tree));
     assert_eq!(rt;
-        leaf_fault(&program, &[], 9, &both, &mut sums),
-        Some(LeafFault::Tree)
-    );
-    assert_eq!(rt;
-        leaf_fault(&program, &cut(9, true), 9, &both, &mut sums),
+        fault_of(alloc, &cut(9, true), 9, &both)?,
         Some(LeafFault::Wide)
     );
-    // The row of a cut has <=, also where the leaf shows that there are no counts.
     let empty = two(alloc, true, times(1, -1), times(4, -1))?;
     assert_eq!(rt;
-        leaf_fault(&program, &cut(0, true), 0, &empty, &mut sums),
+        fault_of(alloc, &cut(0, true), 0, &empty)?,
         Some(LeafFault::Tree)
     );
     Ok(())
@@ -224,104 +227,41 @@ fn rules_of_the_tree_come_first(rt: HostRuntime) -> Result<(), Fail> {
 #[test]
 fn numbers_fit_before_they_show(rt: HostRuntime) -> Result<(), Fail> {
     let alloc = rt.alloc();
-    let program = program(alloc)?;
-    let mut sums: [i128; 2] = [0, 0];
     // The first two parts of column 1 don't fit, all three would.
     let partial = three(alloc, times(1, i128::MAX), times(2, 1), times(3, 1))?;
-    assert_eq!(rt;
-        leaf_fault(&program, &[], 9, &partial, &mut sums),
-        Some(LeafFault::Wide)
-    );
-    // Five times the denominator doesn't fit; then it does, and six times it doesn't.
-    let great = one(alloc, i128::MAX, 1, 1)?;
-    assert_eq!(rt;
-        leaf_fault(&program, &[], 0, &great, &mut sums),
-        Some(LeafFault::Wide)
-    );
+    assert_eq!(rt; fault_of(alloc, &[], 9, &partial)?, Some(LeafFault::Wide));
+    // Six times the denominator doesn't fit; five times it does, and is more than column 1 gets.
     let fifth = one(alloc, i128::MAX / 5, 1, 1)?;
-    assert_eq!(rt;
-        leaf_fault(&program, &[], 5, &fifth, &mut sums),
-        Some(LeafFault::Wide)
-    );
-    assert_eq!(rt;
-        leaf_fault(&program, &[], 4, &fifth, &mut sums),
-        Some(LeafFault::Dual)
-    );
-    // Numbers that fit and show nothing: the right side, then the column.
-    let above = one(alloc, 1, 1, 5)?;
-    assert_eq!(rt;
-        leaf_fault(&program, &[], 4, &above, &mut sums),
-        Some(LeafFault::Dual)
-    );
-    let little = one(alloc, 1, 1, 4)?;
-    assert_eq!(rt;
-        leaf_fault(&program, &[], 5, &little, &mut sums),
-        Some(LeafFault::Dual)
-    );
-    // There is a count where column 1 is at most 1.
-    let low = two(alloc, true, times(1, -1), times(4, 1))?;
-    assert_eq!(rt;
-        leaf_fault(&program, &cut(1, true), 0, &low, &mut sums),
-        Some(LeafFault::Dual)
-    );
+    assert_eq!(rt; fault_of(alloc, &[], 5, &fifth)?, Some(LeafFault::Wide));
+    assert_eq!(rt; fault_of(alloc, &[], 4, &fifth)?, Some(LeafFault::Dual));
     Ok(())
 }
 
 #[test]
 fn bounds_are_the_least(rt: HostRuntime) -> Result<(), Fail> {
     let alloc = rt.alloc();
-    let program = program(alloc)?;
-    let mut sums: [i128; 2] = [0, 0];
     // 11 halves are less than 6, and 12 are not.
-    let whole = one(alloc, 1, 1, 5)?;
-    assert_eq!(rt; least_bound(&program, &[], &whole, &mut sums), Some(5));
     let eleven = one(alloc, 2, 1, 11)?;
-    assert_eq!(rt; least_bound(&program, &[], &eleven, &mut sums), Some(5));
+    assert_eq!(rt; least_of(alloc, &[], &eleven)?, Some(5));
     let twelve = one(alloc, 2, 1, 12)?;
-    assert_eq!(rt; least_bound(&program, &[], &twelve, &mut sums), Some(6));
-    // The greatest number of 64 bits, and the next one.
-    let greatest = one(alloc, 1, 1, 18_446_744_073_709_551_615)?;
-    assert_eq!(rt;
-        least_bound(&program, &[], &greatest, &mut sums),
-        Some(u64::MAX)
-    );
-    let more = one(alloc, 1, 1, 18_446_744_073_709_551_616)?;
-    assert_eq!(rt; least_bound(&program, &[], &more, &mut sums), None);
-    // No bound makes up for a column that gets too little, nor for a row that isn't there.
-    let little = one(alloc, 1, 1, 4)?;
-    assert_eq!(rt; least_bound(&program, &[], &little, &mut sums), None);
-    let absent = one(alloc, 1, 4, 5)?;
-    assert_eq!(rt; least_bound(&program, &[], &absent, &mut sums), None);
-    // A right side of -1, and a leaf that shows that there are no counts.
+    assert_eq!(rt; least_of(alloc, &[], &twelve)?, Some(6));
+    // The next number after those of 64 bits.
+    let great = one(alloc, 1, 1, 18_446_744_073_709_551_616)?;
+    assert_eq!(rt; least_of(alloc, &[], &great)?, None);
+    // A right side of -1.
     let below = two(alloc, false, times(1, -1), times(4, 6))?;
-    assert_eq!(rt;
-        least_bound(&program, &cut(0, true), &below, &mut sums),
-        Some(0)
-    );
-    let empty = two(alloc, true, times(1, -1), times(4, 1))?;
-    assert_eq!(rt;
-        least_bound(&program, &cut(0, true), &empty, &mut sums),
-        Some(0)
-    );
+    assert_eq!(rt; least_of(alloc, &cut(0, true), &below)?, Some(0));
     Ok(())
 }
 
 #[test]
 fn splits_leave_no_part_empty(rt: HostRuntime) -> Result<(), Fail> {
     let alloc = rt.alloc();
-    let program = program(alloc)?;
     // The caps are 1.
-    assert!(rt; is_split(&program, &[], 1, 0));
-    assert!(rt; !is_split(&program, &[], 1, 1));
-    // Columns that aren't there.
-    assert!(rt; !is_split(&program, &[], 0, 0));
-    assert!(rt; !is_split(&program, &[], 3, 0));
-    // A cut from above, cuts from below, and those of another column.
-    assert!(rt; !is_split(&program, &cut(0, true), 1, 0));
-    assert!(rt; !is_split(&program, &cut(0, false), 1, 0));
-    assert!(rt; !is_split(&program, &cut(u64::MAX, false), 1, 0));
-    assert!(rt; is_split(&program, &cut(0, true), 2, 0));
-    assert!(rt; is_split(&program, &cut(1, true), 1, 0));
+    assert!(rt; splits(alloc, &[], 1, 0)?);
+    assert!(rt; !splits(alloc, &[], 1, 1)?);
+    assert!(rt; !splits(alloc, &cut(0, false), 1, 0)?);
+    assert!(rt; splits(alloc, &cut(0, true), 2, 0)?);
     Ok(())
 }
 
