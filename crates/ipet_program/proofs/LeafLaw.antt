@@ -98,7 +98,7 @@ gains-order program counts cuts bound leaf checkable feasible meets valid =
     let all_met : All (IsMet counts) rows =
     All-append (IsMet counts) program.rows (map cut_row cuts) feasible
     (All-map (IsMet counts) cut_row cuts meets.met) in
-    let most = weighed-order counts rows leaf.weights all_met valid.signs in
+    let most = weighed-order counts rows leaf.weights all_met valid.keeps.signs in
     omega (arith, ints)
 
 -- A denominator of at least 1 can be taken away.
@@ -153,5 +153,5 @@ pub leaf-bound : (program : Program) (counts : ℕ → ℕ) (cuts : List Side2) 
     IsCheckable program → IsFeasible program counts → MeetsCuts program counts cuts →
     IsLeaf program cuts bound leaf → Keeps program counts bound leaf.empty
 leaf-bound program counts cuts bound leaf checkable feasible meets valid =
-    shown program counts (all_rows program cuts) bound leaf leaf.empty checkable.value valid.denom valid.shows
+    shown program counts (all_rows program cuts) bound leaf leaf.empty checkable.value valid.keeps.denom valid.shows
     (gains-order program counts cuts bound leaf checkable feasible meets valid)

@@ -12,7 +12,10 @@ pub mod Entering
 pub mod RunCounts
 pub mod SumLemmas
 pub mod WeightLemmas
+pub mod RuleLemmas
 pub mod ShowLemmas
+pub mod LeastLemmas
+pub mod RangeLemmas
 pub mod ListedLemmas
 pub mod TestLemmas
 pub mod FlowSums

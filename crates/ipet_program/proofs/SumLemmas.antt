@@ -7,9 +7,8 @@ use Rattle.std.proofs.lemmas.Int.{ints}
 use Rattle.std.proofs.lemmas.List.{get_or-set_other, get_or-set_same, map-append, take-append-drop, take_more}
 use Rattle.std.proofs.lemmas.List.Elements.{filter-append}
 use lib.IntN.{ℤ, pos, ◌+ℤ◌, ◌*ℤ◌, +ℤ_assoc, +ℤ_idr}
-use lib.Signed.{◌≤ℤ◌}
 use Rattle.ipet_program.specs.Adding.{AreAdded, Fit, HaveRoom, IsTaken, sum_in, terms_parts}
-use Rattle.ipet_program.specs.Leaves.{cut_row, cut_row_by, FitFrom, IsSigned, total}
+use Rattle.ipet_program.specs.Leaves.{cut_row, FitFrom, total}
 use Rattle.ipet_program.specs.declared.leaf.Side2.{Side2}
 use Rattle.ipet_program.specs.declared.program.Row.{Row}
 use Rattle.ipet_program.specs.declared.program.Term.{Term}
@@ -184,32 +183,24 @@ fit-fails parts appends columns first middle xs i d less one wide fit =
     wide (fit-at parts appends columns first middle xs i d less one fit)
 
 -- ---- Rows.
-pub row-taken : (columns : ℕ) (old new : List ℤ) (right times sum : ℤ) (row : Row) → IsSigned times (Some row) →
+pub row-taken : (columns : ℕ) (old new : List ℤ) (right times sum : ℤ) (row : Row) →
     HaveRoom columns old new (λ column. terms_parts column times row.terms) →
     FitFrom right ((times *ℤ row.right) ∷ []) → sum ≡ right +ℤ times *ℤ row.right →
     IsTaken columns old new right times (Some row) sum
-row-taken columns old new right times sum row signed room fit is =
+row-taken columns old new right times sum row room fit is =
     record {
-      may = record { signed = signed; left = room.fit; other = fit };
+      may = record { left = room.fit; other = fit };
       added = room.added;
       total_right = omega (arith, ints);
     }
 
-unequal_by : (upper : Bool) (column at : ℕ) → (cut_row_by upper column at).equal ≡ false
-unequal_by true column at = refl
-unequal_by false column at = refl
-
--- The row of a cut has <=.
-pub cut-unequal : (cut : Side2) → (cut_row cut).equal ≡ false
-cut-unequal cut = unequal_by cut.upper cut.column cut.at
-
 pub cut-taken : (columns : ℕ) (old new : List ℤ) (right times sum : ℤ) (cut : Side2) (terms : List Term) (side : ℤ) →
-    (cut_row cut).terms ≡ terms → (cut_row cut).right ≡ side → pos 0 ≤ℤ times →
+    (cut_row cut).terms ≡ terms → (cut_row cut).right ≡ side →
     HaveRoom columns old new (λ column. terms_parts column times terms) →
     FitFrom right ((times *ℤ side) ∷ []) → sum ≡ right +ℤ times *ℤ side →
     IsTaken columns old new right times (Some (cut_row cut)) sum
-cut-taken columns old new right times sum cut terms side same also low room fit is =
-    row-taken columns old new right times sum (cut_row cut) (λ _. low)
+cut-taken columns old new right times sum cut terms side same also room fit is =
+    row-taken columns old new right times sum (cut_row cut)
     (subst (λ (ts : List Term). HaveRoom columns old new (λ column. terms_parts column times ts)) (sym same) room)
     (subst (λ (z : ℤ). FitFrom right ((times *ℤ z) ∷ [])) (sym also) fit)
     (is ∙ ap (λ (z : ℤ). right +ℤ times *ℤ z) (sym also))

@@ -4,12 +4,11 @@ use Rattle.std.specs.Prelude.{IfNone}
 use Rattle.std.proofs.lemmas.Int.{ints}
 use Rattle.std.proofs.lemmas.List.{append-nil, length-append, length-map, take-append-drop, take_more}
 use Rattle.std.proofs.lemmas.List.Concat.{flat_map-append, flat_map-cons}
-use Rattle.std.proofs.lemmas.List.Elements.{All-get_or, All-more}
 use Rattle.std.proofs.lemmas.Option.{slice_get-get_or, slice_get-map}
 use lib.IntN.{ℤ, pos, ◌+ℤ◌}
 use Rattle.flow_net.specs.Numbers.{item_at, IsNumberOf}
-use Rattle.ipet_program.specs.Adding.{AreTaken, IsTaken, IsWeightTaken, MayTake, MayTakeAll, MayTakeWeight, sum_in}
-use Rattle.ipet_program.specs.Leaves.{all_rows, column_parts, cut_row, FitFrom, IsSigned, parts_in, right_part, right_parts, total}
+use Rattle.ipet_program.specs.Adding.{AreTaken, IsWeightTaken, MayTakeAll, MayTakeWeight, sum_in}
+use Rattle.ipet_program.specs.Leaves.{all_rows, column_parts, cut_row, FitFrom, parts_in, right_part, right_parts, total}
 use Rattle.ipet_program.specs.declared.leaf.Side2.{Side2}
 use Rattle.ipet_program.specs.declared.leaf.Weight.{Weight}
 use Rattle.ipet_program.specs.declared.program.Program.{Program}
@@ -38,6 +37,16 @@ row-number : (program : Program) (cuts : List Side2) (number : ℕ) → 1 ≤ nu
 row-number program cuts number low high =
     let long = length-rows program cuts in
     record { from_one = low; within = omega arith }
+
+-- Behind the program's rows stand those of the cuts.
+pub number-behind : (program : Program) (cuts : List Side2) (rows : List Row) (number : ℕ) → rows ≡ program.rows →
+    IsNumberOf (all_rows program cuts) number → length rows ≤ number - 1 → number - 1 - length rows < length cuts
+number-behind program cuts rows number same is past =
+    let long = length-rows program cuts in
+    let high = is.within in
+    let low = is.from_one in
+    let e = ap length same in
+    omega arith
 
 program-row : (program : Program) (cuts : List Side2) (number : ℕ) (d : Row) → 1 ≤ number →
     number - 1 < length program.rows →
@@ -80,26 +89,6 @@ pub number-in : (program : Program) (cuts : List Side2) (rows : List Row) (numbe
     1 ≤ number → number ≤ length rows + length cuts → IsNumberOf (all_rows program cuts) number
 number-in program cuts rows number same low high =
     row-number program cuts number low (subst (λ (rs : List Row). number ≤ length rs + length cuts) same high)
-
--- What is known of the row of a weight is known by its number.
-pub weight-taken : (program : Program) (cuts : List Side2) (old new : List ℤ) (right : ℤ) (weight : Weight)
-    (row : Row) (sum : ℤ) → IsNumberOf (all_rows program cuts) weight.row →
-    item_at weight.row (all_rows program cuts) ≡ Some row →
-    IsTaken program.columns old new right weight.times (Some row) sum →
-    IsWeightTaken program cuts old new right weight sum
-weight-taken program cuts old new right weight row sum numbered there taken =
-    record {
-      numbered = numbered;
-      taken = subst (λ (found : Option Row). IsTaken program.columns old new right weight.times found sum)
-          (sym there) taken;
-    }
-
-pub weight-refused : (program : Program) (cuts : List Side2) (old : List ℤ) (right : ℤ) (weight : Weight)
-    (row : Row) → item_at weight.row (all_rows program cuts) ≡ Some row →
-    (MayTake program.columns old right weight.times (Some row) → ⊥) →
-    MayTakeWeight program cuts old right weight → ⊥
-weight-refused program cuts old right weight row there refused may =
-    refused (subst (λ (found : Option Row). MayTake program.columns old right weight.times found) there may.may)
 
 -- What follows from what a clause says where there is nothing.
 pub none-then : {X : Type 0} (r : Option X) {P Q : Type 0} → IfNone r P → (P → Q) → IfNone r Q
@@ -151,28 +140,25 @@ weights-more program cuts old middle new weights i d right sum less before one =
     (record { fit = before.may.left; added = before.added })
     (record {
       fit = λ column low high. subst (FitFrom (sum_in middle column)) (sym (one-weight rows weight column))
-          (one.taken.may.left column low high);
+          (one.may.left column low high);
       added = λ column low high.
-          one.taken.added column low high
+          one.added column low high
           ∙ ap (λ (parts : List ℤ). sum_in middle column +ℤ total parts) (sym (one-weight rows weight column));
     }) in
     let more = right-more rows weights i d less in
     record {
       may = record {
-        rows = All-more (λ (w : Weight). IsNumberOf rows w.row) weights i d less before.may.rows one.numbered;
-        signs = All-more (λ (w : Weight). IsSigned w.times (item_at w.row rows)) weights i d less before.may.signs
-            one.taken.may.signed;
         left = room.fit;
         other = subst (FitFrom (pos 0)) (sym more)
             (fit-join (pos 0) (right_parts rows (take i weights)) (right_part weight.times (item_at weight.row rows))
             before.may.other
             (subst (λ (z : ℤ). FitFrom z (right_part weight.times (item_at weight.row rows))) before.total_right
-            one.taken.may.other));
+            one.may.other));
       };
       added = room.added;
       total_right =
           let a = before.total_right in
-          let b = one.taken.total_right in
+          let b = one.total_right in
           let parts = ap total more
           ∙ total-append (right_parts rows (take i weights)) (right_part weight.times (item_at weight.row rows)) in
           omega (arith, ints);
@@ -196,14 +182,10 @@ weight-may program cuts old middle weights i d right less before all =
     (fit-front (pos 0) (right_parts rows (take (i + 1) weights)) (right_parts rows (drop (i + 1) weights))
     (subst (FitFrom (pos 0)) split all.other)) in
     record {
-      numbered = All-get_or (λ (w : Weight). IsNumberOf rows w.row) weights i d less all.rows;
-      may = record {
-        signed = All-get_or (λ (w : Weight). IsSigned w.times (item_at w.row rows)) weights i d less all.signs;
-        left = λ column low high. subst (FitFrom (sum_in middle column)) (one-weight rows weight column)
-            (left column low high);
-        other = subst (λ (z : ℤ). FitFrom z (right_part weight.times (item_at weight.row rows)))
-            (sym before.total_right)
-            (fit-behind (pos 0) (right_parts rows (take i weights)) (right_part weight.times (item_at weight.row rows))
-            front);
-      };
+      left = λ column low high. subst (FitFrom (sum_in middle column)) (one-weight rows weight column)
+          (left column low high);
+      other = subst (λ (z : ℤ). FitFrom z (right_part weight.times (item_at weight.row rows)))
+          (sym before.total_right)
+          (fit-behind (pos 0) (right_parts rows (take i weights)) (right_part weight.times (item_at weight.row rows))
+          front);
     }

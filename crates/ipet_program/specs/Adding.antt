@@ -1,7 +1,7 @@
 -- What a pass over the rows of a leaf adds to a sum for each column, and to the right side.
-use Rattle.std.specs.Prelude.{◌≡◌, ℕ, ◌-◌, ◌≤◌, ◌==◌, ℤ, pos, ◌+ℤ◌, ◌*ℤ◌, List, map, filter, All, Option, slice_index_or}
-use Rattle.flow_net.specs.Numbers.{item_at, IsNumberOf}
-use Rattle.ipet_program.specs.Leaves.{all_rows, column_parts, FitFrom, IsSigned, parts_in, right_part, right_parts, total}
+use Rattle.std.specs.Prelude.{◌≡◌, ℕ, ◌-◌, ◌≤◌, ◌==◌, ℤ, pos, ◌+ℤ◌, ◌*ℤ◌, List, map, filter, Option, slice_index_or}
+use Rattle.flow_net.specs.Numbers.{item_at}
+use Rattle.ipet_program.specs.Leaves.{all_rows, column_parts, FitFrom, parts_in, right_part, right_parts, total}
 use Rattle.ipet_program.specs.declared.leaf.Side2.{Side2}
 use Rattle.ipet_program.specs.declared.leaf.Weight.{Weight}
 use Rattle.ipet_program.specs.declared.program.Program.{Program}
@@ -35,7 +35,6 @@ terms_parts column times terms =
 
 -- The row of a number may be taken a number of times: the numbers fit on the left and on the right.
 pub record MayTake (columns : ℕ) (sums : List ℤ) (right times : ℤ) (row : Option Row) : Type 0 where
-  pub signed : IsSigned times row
   pub left : Fit columns sums (λ column. parts_in column times row)
   pub other : FitFrom right (right_part times row)
 
@@ -46,18 +45,16 @@ pub record IsTaken (columns : ℕ) (old new : List ℤ) (right times : ℤ) (row
   pub total_right : sum ≡ right +ℤ total (right_part times row)
 
 -- The row of a weight may be taken, and has been taken.
-pub record MayTakeWeight (program : Program) (cuts : List Side2) (sums : List ℤ) (right : ℤ) (weight : Weight) : Type 0 where
-  pub numbered : IsNumberOf (all_rows program cuts) weight.row
-  pub may : MayTake program.columns sums right weight.times (item_at weight.row (all_rows program cuts))
+abbrev pub MayTakeWeight : Program → List Side2 → (sums : List ℤ) → (right : ℤ) → Weight → Type 0
+MayTakeWeight program cuts sums right weight =
+    MayTake program.columns sums right weight.times (item_at weight.row (all_rows program cuts))
 
-pub record IsWeightTaken (program : Program) (cuts : List Side2) (old new : List ℤ) (right : ℤ) (weight : Weight) (sum : ℤ) : Type 0 where
-  pub numbered : IsNumberOf (all_rows program cuts) weight.row
-  pub taken : IsTaken program.columns old new right weight.times (item_at weight.row (all_rows program cuts)) sum
+abbrev pub IsWeightTaken : Program → List Side2 → (old new : List ℤ) → (right : ℤ) → Weight → (sum : ℤ) → Type 0
+IsWeightTaken program cuts old new right weight sum =
+    IsTaken program.columns old new right weight.times (item_at weight.row (all_rows program cuts)) sum
 
 -- The rows of these weights may be taken, from the sums and the right side on.
 pub record MayTakeAll (program : Program) (cuts : List Side2) (sums : List ℤ) (right : ℤ) (weights : List Weight) : Type 0 where
-  pub rows : All (λ weight. IsNumberOf (all_rows program cuts) weight.row) weights
-  pub signs : All (λ weight. IsSigned weight.times (item_at weight.row (all_rows program cuts))) weights
   pub left : Fit program.columns sums (column_parts (all_rows program cuts) weights)
   pub other : FitFrom right (right_parts (all_rows program cuts) weights)
 

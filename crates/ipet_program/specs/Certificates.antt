@@ -1,11 +1,12 @@
 -- Valid certificates: counts of a value, and a tree that shows a bound.
-use Rattle.std.specs.Prelude.{◌≡◌, ℕ, ◌+◌, ◌<◌, ◌≤◌, ◌==◌, ◌&&◌, not, min, max, true, false, pos, List, [], ◌∷◌, ◌++◌, Option, Some, None, if◌then◌else◌}
+use Rattle.std.specs.Prelude.{◌≡◌, ℕ, ◌+◌, ◌-◌, ◌^◌, ◌<◌, ◌≤◌, ◌==◌, ◌&&◌, not, min, max, true, false, pos, List, [], ◌∷◌, ◌++◌, Option, Some, None, if◌then◌else◌}
 use Rattle.flow_net.specs.Numbers.{item_at}
 use Rattle.ipet_program.specs.declared.certificate.Certificate.{Certificate}
 use Rattle.ipet_program.specs.declared.certificate.Node.{Node}
 use Rattle.ipet_program.specs.declared.certificate.Node.TheVariants.{Split, End}
 use Rattle.ipet_program.specs.declared.leaf.Side2.{Side2}
 use Rattle.ipet_program.specs.declared.program.Program.{Program}
+use Rattle.ipet_program.specs.declared.split.Range.{Range}
 use Rattle.ipet_program.specs.Counts.{IsFeasible, NamesColumns, listed, value_of}
 use Rattle.ipet_program.specs.Leaves.{IsLeaf}
 
@@ -26,6 +27,12 @@ cap_or_zero (Some cap) = cap
 
 abbrev pub high_end : Program → List Side2 → ℕ → ℕ
 high_end program cuts column = cut_high (cap_or_zero (item_at column program.caps)) cuts column
+
+-- The range of a column under cuts. A low end above 2^64 - 1 is told as that: caps have 64 bits, so neither is below a
+-- high end.
+pub record IsRange (program : Program) (cuts : List Side2) (column : ℕ) (range : Range) : Type 0 where
+  pub low : range.low ≡ min (low_end cuts column) (2 ^ 64 - 1)
+  pub high : range.high ≡ high_end program cuts column
 
 -- A split parts the range that a column of the program has under the cuts above it; no part is empty.
 pub record IsSplit (program : Program) (cuts : List Side2) (column at : ℕ) : Type 0 where

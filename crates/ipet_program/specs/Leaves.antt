@@ -93,15 +93,24 @@ abbrev pub FitsBound : (empty : Bool) → Program → ℕ → Leaf → Type 0
 FitsBound false program bound leaf = FitsValues program bound leaf
 FitsBound true program bound leaf = Unit {0}
 
--- The leaf is valid under the cuts above it. (Its type keeps that it has the denominator 1 where it shows that
--- there are no counts.) Then counts that are feasible and meet the cuts have a value of at most the bound, and
--- there are none where the leaf shows that (`leaf-bound` of proofs/LeafLaw.antt).
-pub record IsLeaf (program : Program) (cuts : List Side2) (bound : ℕ) (leaf : Leaf) : Type 0 where
+-- The leaf keeps the rules of a tree: each multiplier is of a row, none is negative on a row with <=, and the
+-- denominator is at least 1. (Its type keeps that this is 1 where the leaf shows that there are no counts.)
+pub record KeepsRules (program : Program) (cuts : List Side2) (leaf : Leaf) : Type 0 where
   pub rows : All (λ weight. IsNumberOf (all_rows program cuts) weight.row) leaf.weights
   pub signs : All (λ weight. IsSigned weight.times (item_at weight.row (all_rows program cuts))) leaf.weights
   pub denom : pos 1 ≤ℤ leaf.denom
-  pub shows : Shows leaf.empty program (all_rows program cuts) bound leaf
-  pub columns_fit : (column : ℕ) → 1 ≤ column → column ≤ program.columns →
+
+-- Each product and each partial sum fits 128 signed bits: of each column in the order of the rows, and of the
+-- right sides.
+pub record FitsLeaf (program : Program) (cuts : List Side2) (bound : ℕ) (leaf : Leaf) : Type 0 where
+  pub columns : (column : ℕ) → 1 ≤ column → column ≤ program.columns →
       FitFrom (pos 0) (column_parts (all_rows program cuts) leaf.weights column)
-  pub right_fits : FitFrom (pos 0) (right_parts (all_rows program cuts) leaf.weights)
-  pub bound_fits : FitsBound leaf.empty program bound leaf
+  pub right : FitFrom (pos 0) (right_parts (all_rows program cuts) leaf.weights)
+  pub next : FitsBound leaf.empty program bound leaf
+
+-- The leaf is valid under the cuts above it. Then counts that are feasible and meet the cuts have a value of at most
+-- the bound, and there are none where the leaf shows that (`leaf-bound` of proofs/LeafLaw.antt).
+pub record IsLeaf (program : Program) (cuts : List Side2) (bound : ℕ) (leaf : Leaf) : Type 0 where
+  pub keeps : KeepsRules program cuts leaf
+  pub fits : FitsLeaf program cuts bound leaf
+  pub shows : Shows leaf.empty program (all_rows program cuts) bound leaf

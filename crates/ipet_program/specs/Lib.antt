@@ -9,6 +9,7 @@ pub mod Programs
 pub mod Counts
 pub mod Trees
 pub mod Leaves
+pub mod LeafFaults
 pub mod Adding
 pub mod Shown
 pub mod Certificates

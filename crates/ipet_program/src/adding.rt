@@ -1,9 +1,10 @@
 //! Adding rows, each taken a number of times, to a sum for each column and to the right side.
 
-ghost use Rattle.std.specs.Prelude.{◌≡◌, ◌≤◌, ◌+ℤ◌, ◌*ℤ◌, ◌≤ℤ◌, false, length, pos, [], ◌∷◌, Some, IfSome, IfNone};
+ghost use Rattle.std.specs.Prelude.{◌≡◌, ◌≤◌, ◌+ℤ◌, ◌*ℤ◌, length, pos, All, [], ◌∷◌, Some, IfSome, IfNone};
 ghost use Rattle.std.specs.Bool.{OnFalse, OnTrue};
+ghost use Rattle.flow_net.specs.Numbers.{IsNumberOf};
 ghost use Rattle.ipet_program.specs.Adding.{AreTaken, Fit, HaveRoom, IsTaken, IsWeightTaken, MayTake, MayTakeAll, MayTakeWeight, terms_parts};
-ghost use Rattle.ipet_program.specs.Leaves.{FitFrom, cut_row};
+ghost use Rattle.ipet_program.specs.Leaves.{FitFrom, all_rows, cut_row};
 
 use crate::leaf::{Side2, Weight};
 use crate::program::{Program, Row, Term};
@@ -49,24 +50,13 @@ fn add_terms(sums: &mut [i128], columns: u32, times: i128, terms: &[Term]) -> bo
     true
 }
 
-/// Whether a row may be taken a number of times: one with <= isn't taken a negative number of times.
-fn is_allowed(equal: bool, times: i128) -> bool
-    ensures signed { OnTrue result (equal ≡ false → pos 0 ≤ℤ times) }
-    ensures wrong { OnFalse result ((equal ≡ false → pos 0 ≤ℤ times) → ⊥) }
-{
-    equal || times >= 0
-}
-
 /// Adds a row that is taken a number of times: its terms to the columns' sums, its right side to the sum
-/// of these. Nothing where its sign forbids that or a number doesn't fit.
+/// of these. Nothing where a number doesn't fit.
 fn add_row(sums: &mut [i128], columns: u32, right: i128, times: i128, row: &Row) -> Option<i128>
     requires { columns ≤ length sums.old }
     ensures some { IfSome result (IsTaken columns sums.old sums.new right times (Some row.now)) }
     ensures none { IfNone result (MayTake columns sums.old right times (Some row.now) → ⊥) }
 {
-    if !is_allowed(row.equal, times) {
-        return None;
-    }
     if !add_terms(sums, columns, times, row.terms.as_slice()) {
         return None;
     }
@@ -94,9 +84,6 @@ fn add_cut(sums: &mut [i128], columns: u32, right: i128, times: i128, cut: Side2
     ensures some { IfSome result (IsTaken columns sums.old sums.new right times (Some (cut_row cut))) }
     ensures none { IfNone result (MayTake columns sums.old right times (Some (cut_row cut)) → ⊥) }
 {
-    if !is_allowed(false, times) {
-        return None;
-    }
     let term = Term {
         column: cut.column,
         factor: cut_factor(cut),
@@ -107,7 +94,7 @@ fn add_cut(sums: &mut [i128], columns: u32, right: i128, times: i128, cut: Side2
     with_product(right, times, cut_right(cut))
 }
 
-/// Adds the row of a weight, as `add_row` does; nothing where no row has its number.
+/// Adds the row of a weight, as `add_row` does.
 fn add_weight(
     program: &Program,
     cuts: &[Side2],
@@ -115,13 +102,11 @@ fn add_weight(
     sums: &mut [i128],
     right: i128,
 ) -> Option<i128>
-    requires { program.now.columns ≤ length sums.old }
+    requires room { program.now.columns ≤ length sums.old }
+    requires there { IsNumberOf (all_rows program.now cuts.now) weight.row }
     ensures some { IfSome result (IsWeightTaken program.now cuts.now sums.old sums.new right weight) }
     ensures none { IfNone result (MayTakeWeight program.now cuts.now sums.old right weight → ⊥) }
 {
-    if weight.row == 0 {
-        return None;
-    }
     let rows = program.rows.as_slice();
     let position = weight.row - 1;
     if position < rows.len() as u64 {
@@ -134,16 +119,13 @@ fn add_weight(
         );
     }
     let behind = position - rows.len() as u64;
-    if behind < cuts.len() as u64 {
-        return add_cut(
-            sums,
-            program.columns,
-            right,
-            weight.times,
-            cuts[behind as usize],
-        );
-    }
-    None
+    add_cut(
+        sums,
+        program.columns,
+        right,
+        weight.times,
+        cuts[behind as usize],
+    )
 }
 
 /// Adds the rows of weights, in their order, from no right side on.
@@ -153,7 +135,8 @@ pub fn add_weights(
     weights: &[Weight],
     sums: &mut [i128],
 ) -> Option<i128>
-    requires { program.now.columns ≤ length sums.old }
+    requires room { program.now.columns ≤ length sums.old }
+    requires there { All (λ weight. IsNumberOf (all_rows program.now cuts.now) weight.row) weights.now }
     ensures some { IfSome result (AreTaken program.now cuts.now sums.old sums.new (pos 0) weights.now) }
     ensures none { IfNone result (MayTakeAll program.now cuts.now sums.old (pos 0) weights.now → ⊥) }
 {

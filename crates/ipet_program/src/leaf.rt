@@ -27,6 +27,17 @@ pub struct Leaf {
     pub ghost one: { empty ≡ true → denom ≡ pos 1 },
 }
 
+/// The rule that a leaf breaks first: those of the tree come first, then the sizes of numbers, then what the leaf says.
+#[derive(Clone, Copy, Debug, PartialEq, Eq)]
+pub enum LeafFault {
+    /// A multiplier is of no row, or negative on a row with <=, or the denominator is below 1.
+    Tree,
+    /// A product or a sum of the first products doesn't fit 128 signed bits.
+    Wide,
+    /// The multipliers don't show what the leaf says.
+    Dual,
+}
+
 /// A cut of a column's range.
 #[derive(Clone, Copy, Debug)]
 pub struct Side2 {

@@ -3,7 +3,10 @@
 ghost use Rattle.std.specs.Prelude.{◌≡◌, ◌<◌, ◌≤◌, IfOk, pos, unsigned_abs};
 ghost use Rattle.ipet_program.specs.Programs.{IsCheckable, IsSmallRow};
 
-use crate::{Count, Leaf, Program, Row, Side2, Term, Weight, are_counts, shows_leaf};
+use crate::{
+    Count, Leaf, LeafFault, Program, Row, Side2, Term, Weight, are_counts, is_split, leaf_fault,
+    least_bound, shows_leaf,
+};
 use std::alloc::{AllocError, Global};
 use std::test::Fail;
 use wcet_io::List;
@@ -84,6 +87,21 @@ fn two(alloc: Global, empty: bool, first: Weight, second: Weight) -> Result<Leaf
     })
 }
 
+/// A leaf of three multipliers that shows a bound.
+fn three(alloc: Global, first: Weight, second: Weight, third: Weight) -> Result<Leaf, AllocError>
+    requires rising { (first.row < second.row) × (second.row < third.row) }
+    requires first { first.times ≡ pos 0 → ⊥ }
+    requires second { second.times ≡ pos 0 → ⊥ }
+    requires third { third.times ≡ pos 0 → ⊥ }
+{
+    let weights = vec![in alloc; first, second, third]?;
+    Ok(Leaf {
+        denom: 1,
+        empty: false,
+        weights: List::from_vec(weights),
+    })
+}
+
 /// A multiplier.
 fn times(row: u64, times: i128) -> Weight
     ensures row { result.row ≡ row }
@@ -158,6 +176,92 @@ fn leaves_show_that_there_are_no_counts(rt: HostRuntime) -> Result<(), Fail> {
     // A column that gets less than 0.
     let less = two(alloc, true, times(1, -2), times(4, 1))?;
     assert!(rt; !shows_leaf(&program, &cut(0, true), 0, &less, &mut sums));
+    Ok(())
+}
+
+/// The rule that a leaf breaks first under cuts of the program.
+fn fault_of(
+    alloc: Global,
+    cuts: &[Side2],
+    bound: u64,
+    leaf: &Leaf,
+) -> Result<Option<LeafFault>, AllocError> {
+    let program = program(alloc)?;
+    let mut sums: [i128; 2] = [7, 7];
+    Ok(leaf_fault(&program, cuts, bound, leaf, &mut sums))
+}
+
+/// The least bound that a leaf shows under cuts of the program.
+fn least_of(alloc: Global, cuts: &[Side2], leaf: &Leaf) -> Result<Option<u64>, AllocError> {
+    let program = program(alloc)?;
+    let mut sums: [i128; 2] = [7, 7];
+    Ok(least_bound(&program, cuts, leaf, &mut sums))
+}
+
+/// Whether a split is one of the program under cuts.
+fn splits(alloc: Global, cuts: &[Side2], column: u32, at: u64) -> Result<bool, AllocError> {
+    let program = program(alloc)?;
+    Ok(is_split(&program, cuts, column, at))
+}
+
+#[test]
+fn rules_of_the_tree_come_first(rt: HostRuntime) -> Result<(), Fail> {
+    let alloc = rt.alloc();
+    // Row 3 has <=, and row 4 is that of a cut. The sum of column 1 doesn't fit.
+    let negative = two(alloc, false, times(1, 5), times(3, -1))?;
+    assert_eq!(rt; fault_of(alloc, &[], 9, &negative)?, Some(LeafFault::Tree));
+    let both = three(alloc, times(1, i128::MAX), times(2, 1), times(4, 1))?;
+    assert_eq!(rt; fault_of(alloc, &[], 9, &both)?, Some(LeafFault::Tree));
+    assert_eq!(rt;
+        fault_of(alloc, &cut(9, true), 9, &both)?,
+        Some(LeafFault::Wide)
+    );
+    let empty = two(alloc, true, times(1, -1), times(4, -1))?;
+    assert_eq!(rt;
+        fault_of(alloc, &cut(0, true), 0, &empty)?,
+        Some(LeafFault::Tree)
+    );
+    Ok(())
+}
+
+#[test]
+fn numbers_fit_before_they_show(rt: HostRuntime) -> Result<(), Fail> {
+    let alloc = rt.alloc();
+    // The first two parts of column 1 don't fit, all three would.
+    let partial = three(alloc, times(1, i128::MAX), times(2, 1), times(3, 1))?;
+    assert_eq!(rt; fault_of(alloc, &[], 9, &partial)?, Some(LeafFault::Wide));
+    // Six times the denominator doesn't fit; five times it does, and is more than column 1 gets.
+    let fifth = one(alloc, i128::MAX / 5, 1, 1)?;
+    assert_eq!(rt; fault_of(alloc, &[], 5, &fifth)?, Some(LeafFault::Wide));
+    assert_eq!(rt; fault_of(alloc, &[], 4, &fifth)?, Some(LeafFault::Dual));
+    Ok(())
+}
+
+#[test]
+fn bounds_are_the_least(rt: HostRuntime) -> Result<(), Fail> {
+    let alloc = rt.alloc();
+    // 11 halves are less than 6, and 12 are not.
+    let eleven = one(alloc, 2, 1, 11)?;
+    assert_eq!(rt; least_of(alloc, &[], &eleven)?, Some(5));
+    let twelve = one(alloc, 2, 1, 12)?;
+    assert_eq!(rt; least_of(alloc, &[], &twelve)?, Some(6));
+    // The next number after those of 64 bits.
+    let great = one(alloc, 1, 1, 18_446_744_073_709_551_616)?;
+    assert_eq!(rt; least_of(alloc, &[], &great)?, None);
+    // A right side of -1.
+    let below = two(alloc, false, times(1, -1), times(4, 6))?;
+    assert_eq!(rt; least_of(alloc, &cut(0, true), &below)?, Some(0));
+    Ok(())
+}
+
+#[test]
+fn splits_leave_no_part_empty(rt: HostRuntime) -> Result<(), Fail> {
+    let alloc = rt.alloc();
+    // The caps are 1.
+    assert!(rt; splits(alloc, &[], 1, 0)?);
+    assert!(rt; !splits(alloc, &[], 1, 1)?);
+    assert!(rt; !splits(alloc, &cut(0, false), 1, 0)?);
+    assert!(rt; splits(alloc, &cut(0, true), 2, 0)?);
     Ok(())
 }
 

@@ -48,15 +48,15 @@ leaf-from : (program : Program) (bound : ℕ) (leaf : Leaf) → leaf.empty ≡ f
     IsShowing program bound (all_rows program []) leaf.weights leaf.denom → IsLeaf program [] bound leaf
 leaf-from program bound leaf some is =
     record {
-      rows = is.there;
-      signs = is.signs;
-      denom = is.one;
+      keeps = record { rows = is.there; signs = is.signs; denom = is.one };
+      fits = record {
+        columns = is.columns_fit;
+        right = is.right_fits;
+        next = subst (λ (empty : Bool). FitsBound empty program bound leaf) (sym some)
+            (record { values = is.values; next = is.next });
+      };
       shows = subst (λ (empty : Bool). Shows empty program (all_rows program []) bound leaf) (sym some)
           (record { columns = is.columns; right = is.right });
-      columns_fit = is.columns_fit;
-      right_fits = is.right_fits;
-      bound_fits = subst (λ (empty : Bool). FitsBound empty program bound leaf) (sym some)
-          (record { values = is.values; next = is.next });
     }
 
 one_bit : (t : Bool) (total : ℕ) → pos total *ℤ one_if t ≡ pos (total * bit t)

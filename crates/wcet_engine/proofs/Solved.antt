@@ -4,6 +4,7 @@ use Rattle.std.proofs.lemmas.Int.{ints}
 use Rattle.std.proofs.lemmas.List.Elements.{All-nil}
 use Rattle.ipet_program.specs.Certificates.{AreValid, IsValid}
 use Rattle.ipet_program.specs.Counts.{IsMet, listed, value_of}
+use Rattle.ipet_program.specs.LeafFaults.{IsLeastBound}
 use Rattle.ipet_program.specs.Leaves.{IsLeaf, cut_row}
 use Rattle.ipet_program.specs.Programs.{IsCheckable, IsProgramOf, crude_limit}
 use Rattle.ipet_program.specs.declared.certificate.Certificate.{Certificate}
@@ -28,6 +29,17 @@ value-bound program leaf counts checkable shows are =
     (record { met = All-nil (λ (cut : Side2). IsMet (listed counts) (cut_row cut)); named = λ k d inside. absurd (omega (arith, inside)) }) shows.valid in
     let most = kept.value in
     let least = are.greatest.greatest shows.counts shows.greatest.feasible in
+    let value = shows.reached in
+    omega (arith, ints)
+
+-- The least bound that the leaf shows is the greatest value.
+pub least-greatest : (program : Program) (leaf : Leaf) (bound : ℕ) → IsCheckable program →
+    IsLeastBound program [] leaf bound → (shows : ShowsGreatest program leaf) → bound ≡ shows.bound
+least-greatest program leaf bound checkable is shows =
+    let kept = leaf-bound program shows.counts [] bound leaf checkable shows.greatest.feasible
+    (record { met = All-nil (λ (cut : Side2). IsMet shows.counts (cut_row cut)); named = λ k d inside. absurd (omega (arith, inside)) }) is.valid in
+    let most = kept.value in
+    let least = is.least shows.bound shows.valid in
     let value = shows.reached in
     omega (arith, ints)
 

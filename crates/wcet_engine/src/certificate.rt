@@ -4,7 +4,6 @@ ghost use Rattle.std.specs.Prelude.{◌≡◌, ◌≤◌, [], IfErr, IfOk};
 ghost use Rattle.flow_net.specs.Nested.{IsNested};
 ghost use Rattle.ipet_program.specs.Certificates.{IsValid};
 ghost use Rattle.ipet_program.specs.Programs.{HasRows, IsCheckable, crude_limit};
-ghost use Rattle.ipet_program.specs.declared.program.Program.{Program};
 ghost use Rattle.nest_solver.specs.Answers.{ShowsGreatest};
 ghost use Rattle.nest_solver.specs.Nets.{IsProgramOfNet};
 ghost use Rattle.nest_solver.specs.Tables.{IsFew};
@@ -17,21 +16,22 @@ use crate::refusal::RefusalKind;
 use cache_config::Profile;
 use elf_mips::Image;
 use flow_net::{ClassTable, Net};
-use ipet_program::{BuildFault, Certificate, Leaf, Node, Program, build};
+use ipet_program::{BuildFault, Certificate, Leaf, Node, Program, build, least_bound};
 use nest_solver::{nest_bound, nest_counts};
 use std::alloc::{AllocError, Global};
 use wcet_io::List;
 
-/// The bound that a leaf shows, by the multiplier of the program's first row.
-fn bound_of(leaf: &Leaf) -> u64
-    requires { (program : Program) × (shows : ShowsGreatest program leaf.now) × (shows.bound ≤ crude_limit) }
-    ensures { (program : Program) (shows : ShowsGreatest program leaf.now) → result ≡ shows.bound }
+/// The bound that a leaf shows: the least one under which it is valid.
+fn bound_of(alloc: Global, program: &Program, leaf: &Leaf) -> Result<u64, AllocError>
+    requires checkable { IsCheckable program.now }
+    requires shows { (shows : ShowsGreatest program.now leaf.now) × (shows.bound ≤ crude_limit) }
+    ensures { IfOk result (λ bound. (shows : ShowsGreatest program.now leaf.now) → bound ≡ shows.bound) }
 {
-    let times = leaf.weights.as_slice()[0].times;
-    let Ok(bound) = u64::try_from(times) else {
+    let mut sums = vec![in alloc; 0i128; program.columns as usize]?;
+    let Some(bound) = least_bound(program, &[], leaf, &mut sums) else {
         unreachable!();
     };
-    bound
+    Ok(bound)
 }
 
 /// The certificate of one leaf, which shows the greatest value, and of counts that have this value.
@@ -47,7 +47,7 @@ fn certificate_of(alloc: Global, program: &Program, net: &Net) -> Result<Certifi
 {
     let leaf = nest_bound(alloc, program, net)?;
     let counts = nest_counts(alloc, program, net)?;
-    let bound = bound_of(&leaf);
+    let bound = bound_of(alloc, program, &leaf)?;
     let mut tree = List::new(alloc);
     tree.push(Node::End(leaf))?;
     Ok(Certificate {

@@ -20,10 +20,9 @@ returns-clause-some c =
     let old = c.args.sums.now in
     let new = c.add_terms.new.sums in
     let room = simp to_z-of_z at c.if-not-add_terms.ensures.added in
-    let sign = simp to_z-of_z at c.if-not-is_allowed.ensures.signed in
     let h = simp to_z-of_z at c.with_product.ensures.some in
     IfSome_then c.with_product.result h
-    (λ sum k. row-taken c.args.columns old new c.args.right times sum row sign
+    (λ sum k. row-taken c.args.columns old new c.args.right times sum row
     (subst (λ (terms : List Term). HaveRoom c.args.columns old new (λ column. terms_parts column times terms))
     c.as_slice.ensures room)
     (subst (λ (z : ℤ). FitFrom c.args.right ((times *ℤ z) ∷ [])) same k.0)
