@@ -1,11 +1,12 @@
 -- A run that kept all rules so far, and its next unit.
-use Rattle.std.proofs.Common.{◌≡◌, ℕ, zero, suc, ◌+◌, ◌<◌, ◌≤◌, ◌⊎◌, inl, inr, Bool, true, List, [], ◌∷◌, ◌++◌, All, Contains, Option, Some, refl, ap, sym, subst, ◌∙◌, arith}
+use Rattle.std.proofs.Common.{◌≡◌, ℕ, zero, suc, ◌+◌, ◌-◌, ◌==◌, ◌<◌, ◌≤◌, ◌⊎◌, inl, inr, Bool, true, false, get_or, List, [], ◌∷◌, ◌++◌, All, Contains, Option, Some, refl, ap, sym, subst, ◌∙◌, arith}
 use Rattle.std.proofs.lemmas.List.{append_assoc}
 use Rattle.std.proofs.lemmas.List.Elements.{All-nil, All-push}
 use Rattle.elf_mips.specs.declared.image.Image.{Image}
 use Rattle.elf_mips.specs.Segments.{code_at as image_code}
 use Rattle.flow_net.specs.Numbers.{IsNumberOf, item_at}
 use Rattle.flow_net.specs.Visits.{KeepsBounds}
+use Rattle.flow_net.proofs.Numbers.{item_at-same}
 use Rattle.flow_net.specs.declared.net.Net.{Net}
 use Rattle.flow_net.specs.declared.net.NetArc.{NetArc}
 use Rattle.flow_net.specs.declared.net.Place.{Place}
@@ -14,6 +15,10 @@ use Rattle.mips_decode.specs.Effect.{reg}
 use Rattle.mips_decode.specs.Records.{KeepsTargets}
 use Rattle.mips_decode.specs.Run.{Joins}
 use Rattle.mips_decode.specs.State.{State, code_at, return_address}
+use Rattle.mips_decode.specs.Table.{IsValid}
+use Rattle.mips_decode.specs.declared.instr.BranchOp.TheVariants.{Beq, Bne, Blez, Bgtz, Bltz, Bgez, Bltzal, Bgezal}
+use Rattle.mips_decode.specs.declared.instr.Instr.{Instr}
+use Rattle.mips_decode.specs.declared.instr.Instr.TheVariants.{Three, Shift, HiLo, MulDiv, Imm, Lui, Load, Store, Branch, Jump, JumpReg, JumpLink, Stop}
 use Rattle.mips_decode.specs.Step.{Done, Stepped, Went, Returned, Trapped, value_step}
 use Rattle.mips_decode.specs.Transfer.{Call, Linking, linking_of}
 use Rattle.mips_decode.specs.Units.{ReturnsToCallers, RunUnit, Stand, stand_after, stand_end, visits}
@@ -37,17 +42,19 @@ use Rattle.image_run.specs.declared.report.BrokenKind.{BrokenKind}
 use Rattle.image_run.specs.declared.report.BrokenKind.TheVariants as broken
 use Rattle.image_run.specs.Course.{IsFollowing, IsRunnable, stand_behind, units_done}
 use Rattle.image_run.specs.Ranges.{KeepsRange, ranges_at}
-use Rattle.image_run.specs.Road.{IsPlaceBehind}
+use Rattle.image_run.specs.declared.spots.Spot.{Spot}
+use Rattle.image_run.specs.Links.{IsLow, link_in, return_link}
+use Rattle.image_run.specs.Road.{IsPlaceBehind, IsSpotAt}
 use Rattle.image_run.specs.Turns.{AreTracked, IsOver, IsVisited}
 use Rattle.image_run.specs.Verdicts.{Breaks, IsBroken, KeepAll, KeepLoops}
-use Rattle.image_run.proofs.Growing.{stand-more}
+use Rattle.image_run.proofs.Headed.{place-read}
 use Rattle.image_run.proofs.Passing.{coming}
 use Rattle.image_run.proofs.Rules.{WasDone, behind-context, context-behind}
 use Rattle.image_run.proofs.Turning.{tracks-kept}
 use Rattle.image_run.proofs.Visiting.{loops-broken, loops-kept, visited-more, visits-append}
 
 -- ---- The next unit stands at the place of the course.
-pub here : (program : Program) (units : List RunUnit) (c : Course) → IsFollowing program units c →
+abbrev pub here : (program : Program) (units : List RunUnit) (c : Course) → IsFollowing program units c →
     IsPlaceFor program.net.now (record { calls = (stand_behind program units).calls; address = c.machine.values.pc }) c.place
 here program units c fol = record {
   context = fol.place.context;
@@ -60,7 +67,7 @@ pub number-here : (program : Program) (units : List RunUnit) (c : Course) → Is
 number-here program units c fol = place-number program.net.now c.place fol.place.context _ fol.place.at
 
 -- ---- The visit of the next unit.
-visited-next : (program : Program) (units : List RunUnit) (c : Course) (fol : IsFollowing program units c) (step : Stepped) →
+pub visited-next : (program : Program) (units : List RunUnit) (c : Course) (fol : IsFollowing program units c) (step : Stepped) →
     AreVisited program.net.now
     (visits (units ++ record { at = record { calls = (stand_behind program units).calls; address = c.machine.values.pc }; step = step } ∷ []))
     (fol.visited ++ c.place ∷ [])
@@ -202,3 +209,56 @@ pub zero-more : (image : Image) (unit : CodeUnit) (s t : State) (done : Done) �
     reg t.regs 0 ≡ 0
 zero-more image unit s t done stands is_zero step targets =
     (unit-goes image unit s t [] stands is_zero targets (subst (λ (w : Stepped). Joins w t []) (sym step) refl)).zero
+
+-- ---- What the tables say of the place.
+pub spot-here : (program : Program) (units : List RunUnit) (c : Course) → IsFollowing program units c → (spot : Spot) →
+    ((at : Place) → item_at c.place program.net.now.places ≡ Some at → IsSpotAt program.image.now at.address spot) →
+    IsSpotAt program.image.now c.machine.values.pc spot
+spot-here program units c fol spot tells =
+    subst (λ (a : ℕ). IsSpotAt program.image.now a spot) (fol.place.at.same ∙ fol.address) (tells fol.place.at.place fol.place.at.there)
+
+pub context-here : (program : Program) (units : List RunUnit) (c : Course) (fol : IsFollowing program units c) (places : List Place) (d : Place) →
+    places ≡ program.net.now.places → (get_or places (c.place - 1) d).context ≡ fol.place.context
+context-here program units c fol places d same =
+    ap (λ (p : Place). p.context)
+    (item_at-same program.net.now.places c.place (get_or places (c.place - 1) d) fol.place.at.place
+    (place-read program.net.now c.place places d (number-here program units c fol) same) fol.place.at.there)
+    ∙ fol.place.at.within
+
+link-low : (instr : Instr) → IsValid instr → IsLow (link_in instr)
+link-low (Three op rd rs rt) valid = tt
+link-low (Shift op rd rt by) valid = tt
+link-low (HiLo op number) valid = tt
+link-low (MulDiv op rs rt) valid = tt
+link-low (Imm op rt rs imm) valid = tt
+link-low (Lui rt imm) valid = tt
+link-low (Load op rt base offset) valid = tt
+link-low (Store op rt base offset) valid = tt
+link-low (Branch Beq rs rt offset) valid = tt
+link-low (Branch Bne rs rt offset) valid = tt
+link-low (Branch Blez rs rt offset) valid = tt
+link-low (Branch Bgtz rs rt offset) valid = tt
+link-low (Branch Bltz rs rt offset) valid = tt
+link-low (Branch Bgez rs rt offset) valid = tt
+link-low (Branch Bltzal rs rt offset) valid = valid.0
+link-low (Branch Bgezal rs rt offset) valid = valid.0
+link-low (Jump true index) valid = tt
+link-low (Jump false index) valid = tt
+link-low (JumpReg rs) valid = by_number (rs == 31) refl where
+  by_number : (b : Bool) → (rs == 31) ≡ b → IsLow (return_link rs)
+  by_number true is = rw is tt
+  by_number false is = rw is tt
+link-low (JumpLink rd rs) valid = tt
+link-low (Stop op code) valid = tt
+
+pub spot-low : (program : Program) (address : ℕ) (spot : Spot) → IsSpotAt program.image.now address spot → IsLow spot.link
+spot-low program address spot tells = subst IsLow (sym tells.tells.link) (link-low tells.unit.instr tells.placed.standing.valid)
+
+-- The same place, by other words.
+pub respell : (net : Net) (kind other : LinkKind) (address a context k next n to : ℕ) → kind ≡ other → address ≡ a → context ≡ k → next ≡ n →
+    IsPlaceBehind net (linking_of kind address next) context next to → IsPlaceBehind net (linking_of other a n) k n to
+respell net kind other address a context k next n to one two three four behind =
+    subst (λ (w : ℕ). IsPlaceBehind net (linking_of other a w) k w to) four
+    (subst (λ (w : ℕ). IsPlaceBehind net (linking_of other a next) w next to) three
+    (subst (λ (w : ℕ). IsPlaceBehind net (linking_of other w next) context next to) two
+    (subst (λ (w : LinkKind). IsPlaceBehind net (linking_of w address next) context next to) one behind)))

@@ -3,7 +3,7 @@ use Rattle.std.proofs.Common.{◌≡◌, ℕ, zero, suc, ◌+◌, ◌-◌, ◌<�
 use Rattle.std.specs.Prelude.{slice_index, slice_set}
 use Rattle.std.proofs.lemmas.Bool.{cases_eq}
 use Rattle.std.proofs.lemmas.Option.{none-some}
-use Rattle.std.proofs.lemmas.List.{get_or-set_other, get_or-set_same}
+use Rattle.std.proofs.lemmas.List.{get_or-set_other, get_or-set_same, get_or_read}
 use Rattle.flow_net.specs.Nested.{IsNested}
 use Rattle.flow_net.specs.Numbers.{IsNumberOf, IsNumberOrZero, item_at}
 use Rattle.flow_net.specs.declared.net.LoopInst.{LoopInst}
@@ -100,3 +100,10 @@ pub other-away : (net : Net) (scope n : ℕ) (own : LoopInst) → item_at scope 
     (inst : LoopInst) → item_at scope net.loops ≡ Some inst → n ≡ inst.header → ⊥
 other-away net scope n own there differ inst at same =
     differ (ap (λ (l : LoopInst). l.header) (item_at-same net.loops scope own inst there at) ∙ sym same)
+
+-- The number of visits left.
+pub left-read : (net : Net) (turns : Turns) (scope left : ℕ) → IsSized net turns → IsNumberOrZero net.loops scope →
+    left ≡ get_or turns.left.items scope left → left ≡ slice_index turns.left.items scope
+left-read net turns scope left sized within same =
+    let size = sized.size in
+    get_or_read turns.left.items scope left (omega (arith, size, within)) same 0

@@ -4,6 +4,7 @@ pub mod Visiting
 pub mod Doing
 pub mod Growing
 pub mod Rules
+pub mod Tallying
 pub mod Passing
 pub mod Following
 pub mod Cutting
@@ -12,3 +13,6 @@ pub mod Spotting
 pub mod Headed
 pub mod Linking
 pub mod Judging
+pub mod Beginning
+pub mod Exits
+pub mod Reporting

@@ -19,6 +19,7 @@ use Rattle.image_run.specs.declared.course.Program.{Program}
 use Rattle.image_run.specs.Reports.{AreGoing}
 use Rattle.image_run.specs.Verdicts.{IsVerdict}
 use Rattle.image_run.proofs.Doing.{Ends, step-ends}
+use Rattle.image_run.proofs.Tallying.{HasTallies, done-tallies}
 use Rattle.image_run.proofs.Growing.{going-more, last-more, last-values, length-more, next_unit, returned-run, start_stand, units-more, values-more}
 
 -- What the machine did, by what it told.
@@ -98,6 +99,8 @@ goes program c d Going is step told =
     let small = step.small in
     let own : d.steps * most_of_unit ≡ c.steps * most_of_unit + most_of_unit = omega (arith, now) in
     record {
+      start = is.start;
+      tallies = done-tallies c.machine d.machine on.done on.next on.machine is.tallies;
       machines = is.machines ++ d.machine ∷ [];
       going = going-more (machine_of program) is.machines d.machine is.going (ap whole_step is.last ∙ sym step.machine);
       last = last-more (machine_of program) is.machines d.machine;
@@ -116,6 +119,8 @@ goes program c d Returned is step told =
     let before = is.steps in
     let now = step.steps in
     record {
+      start = is.start;
+      tallies = done-tallies c.machine d.machine by.done by.next by.machine is.tallies;
       machines = is.machines ++ d.machine ∷ [];
       run = returned-run (machine_of program) is.machines d.machine is.going (ap whole_step is.last ∙ sym step.machine);
       last = last-more (machine_of program) is.machines d.machine;
@@ -136,6 +141,8 @@ goes program c d Returned is step told =
 goes program c d (Trap kind address) is step told =
     let by = trapped-by c.machine d.machine kind address (value_step (code_at c.machine.values.regions) c.machine.values) step.machine in
     record {
+      start = is.start;
+      tallies = subst (λ (m : Machine). HasTallies m.caches) (sym by.machine) is.tallies;
       machines = is.machines;
       going = is.going;
       last = is.last ∙ sym by.machine;

@@ -39,13 +39,14 @@ spots-push image [] (s ∷ spots) place spot zip is = absurd zip
 spots-push image (p ∷ places) [] place spot zip is = absurd zip
 spots-push image (p ∷ places) (s ∷ spots) place spot zip is = (zip.0, spots-push image places spots place spot zip.1 is)
 
-pub spots-more : (image : Image) (places : List Place) (index : ℕ) (spots : List Spot) (place : Place) (spot : Spot) → index < length places →
-    place ≡ get_or places index place → AreSpots image (take index places) spots → IsSpotAt image place.address spot →
+pub spots-next : (image : Image) (places items : List Place) (index : ℕ) (spots : List Spot) (d : Place) (spot : Spot) → items ≡ places →
+    index < length items → AreSpots image (take index places) spots → IsSpotAt image (get_or items index d).address spot →
     AreSpots image (take (index + 1) places) (spots ++ spot ∷ [])
-spots-more image places index spots place spot inside same zip is =
-    subst (λ (front : List Place). AreSpots image front (spots ++ spot ∷ []))
-    (sym (take_more places index place inside ∙ ap (λ (p : Place). take index places ++ p ∷ []) (sym same)))
-    (spots-push image (take index places) spots place spot zip is)
+spots-next image places items index spots d spot same inside zip is =
+    subst (λ (list : List Place). AreSpots image (take (index + 1) list) (spots ++ spot ∷ [])) same
+    (subst (λ (front : List Place). AreSpots image front (spots ++ spot ∷ [])) (sym (take_more items index d inside))
+    (spots-push image (take index items) spots (get_or items index d) spot
+    (subst (λ (list : List Place). AreSpots image (take index list) spots) (sym same) zip) is))
 
 pub spots-all : (image : Image) (places : List Place) (index : ℕ) (spots : List Spot) → length places ≤ index →
     AreSpots image (take index places) spots → AreSpots image places spots

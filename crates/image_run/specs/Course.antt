@@ -16,7 +16,7 @@ use Rattle.mips_decode.specs.Units.{RunUnit, Stand, stand_end, units_of, visits}
 use Rattle.mips_machine.specs.declared.outcome.Outcome.{Outcome}
 use Rattle.mips_machine.specs.declared.outcome.Outcome.TheVariants.{Going, Returned, Trap}
 use Rattle.mips_machine.specs.Image.{HasNoClash}
-use Rattle.mips_machine.specs.Machine.{Machine, whole_step}
+use Rattle.mips_machine.specs.Machine.{IsMachineStart, Machine, whole_step}
 use Rattle.mips_machine.specs.Run.{IsMachineRun, last_machine, values_of}
 use Rattle.net_model.specs.Net.{HasUnits, IsNet}
 use Rattle.net_model.specs.Runs.{AreVisited, IsPlaceFor}
@@ -74,6 +74,8 @@ most_of_unit = 2 ^ 26
 
 -- A run on its way.
 pub record IsCourse (program : Program) (course : Course) : Type 0 where
+  pub start : IsMachineStart program.image.now program.profile.now program.entry (machine_of program)
+  pub tallies : length course.machine.caches.tallies ≡ length course.machine.caches.held
   pub machines : List Machine
   pub going : AreGoing (machine_of program) machines
   pub last : last_machine (machine_of program) machines ≡ course.machine
@@ -84,6 +86,8 @@ pub record IsCourse (program : Program) (course : Course) : Type 0 where
 
 -- A run whose entry has returned.
 pub record IsReturned (program : Program) (course : Course) : Type 0 where
+  pub start : IsMachineStart program.image.now program.profile.now program.entry (machine_of program)
+  pub tallies : length course.machine.caches.tallies ≡ length course.machine.caches.held
   pub machines : List Machine
   pub run : IsMachineRun (machine_of program) machines
   pub last : last_machine (machine_of program) machines ≡ course.machine
@@ -93,6 +97,8 @@ pub record IsReturned (program : Program) (course : Course) : Type 0 where
 
 -- A run whose next unit traps.
 pub record IsTrapped (program : Program) (kind : TrapKind) (address : ℕ) (course : Course) : Type 0 where
+  pub start : IsMachineStart program.image.now program.profile.now program.entry (machine_of program)
+  pub tallies : length course.machine.caches.tallies ≡ length course.machine.caches.held
   pub machines : List Machine
   pub going : AreGoing (machine_of program) machines
   pub last : last_machine (machine_of program) machines ≡ course.machine

@@ -5,7 +5,7 @@ ghost use Rattle.std.specs.Bool.{OnFalse, OnTrue};
 ghost use Rattle.cache_config.specs.Limits.{most_steps};
 ghost use Rattle.flow_net.specs.Numbers.{IsNumberOf, item_at};
 ghost use Rattle.flow_net.specs.declared.net.Place.{Place};
-ghost use Rattle.image_run.specs.Course.{Goes, GoesBackFrom, IsBackFrom, IsCourse, IsJudged, IsRunnable, StaysInRanges};
+ghost use Rattle.image_run.specs.Course.{Goes, GoesBackFrom, IsBackFrom, IsCourse, IsJudged, IsRunnable, StaysInRanges, counted};
 ghost use Rattle.image_run.specs.Road.{IsRoad, IsSpotAt, site_by};
 ghost use Rattle.image_run.specs.declared.report.Verdict.{Verdict};
 
@@ -107,7 +107,8 @@ impl Course {
         requires road { IsRoad program.now.image.now program.now.net.now road.now }
         requires course { IsCourse program.now self.old }
         requires few { self.old.steps < most_steps }
-        ensures { Goes program.now result self.new }
+        ensures goes { Goes program.now result self.new }
+        ensures counts { self.new.steps ≡ counted result self.old.steps }
     {
         match self.verdict {
             Verdict::Kept => self.follow(program, road),
@@ -122,7 +123,8 @@ impl Course {
         requires course { IsCourse program.now self.old }
         requires few { self.old.steps < most_steps }
         requires kept { self.old.verdict ≡ Verdict.Kept }
-        ensures { Goes program.now result self.new }
+        ensures goes { Goes program.now result self.new }
+        ensures counts { self.new.steps ≡ counted result self.old.steps }
     {
         let address = self.machine.pc();
         let place = self.place;

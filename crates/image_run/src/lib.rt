@@ -10,6 +10,8 @@ mod report;
 mod road;
 mod run;
 mod spots;
+#[cfg(test)]
+mod tests;
 mod turns;
 
 pub use report::{BrokenKind, RunReport, Stop, Verdict};

@@ -20,6 +20,7 @@ use wcet_io::List;
 
 /// The tallies of a machine's caches, in their order.
 fn tallies_of(alloc: Global, machine: &Machine) -> Result<List<Tally>, AllocError>
+    requires { length machine.now.caches.tallies ≡ length machine.now.caches.held }
     ensures { IfOk result (λ (tallies : List Tally). tallies ≡ machine.now.caches.tallies) }
 {
     let mut tallies = List::new(alloc);
@@ -32,6 +33,7 @@ fn tallies_of(alloc: Global, machine: &Machine) -> Result<List<Tally>, AllocErro
 impl Course {
     /// What is told of a run that came to its end so.
     fn report(&self, alloc: Global, stop: Stop) -> Result<RunReport, AllocError>
+        requires { length self.now.machine.caches.tallies ≡ length self.now.machine.caches.held }
         ensures stop { IfOk result (λ report. report.stop ≡ stop) }
         ensures cycles { IfOk result (λ report. report.cycles ≡ self.now.machine.cycles) }
         ensures steps { IfOk result (λ report. report.steps ≡ self.now.steps) }

@@ -13,11 +13,11 @@ returns-in-Some-clause-yes c =
     OnTrue_from (not c.hold.result) _ (λ leaves stays.
         not-true c.hold.result leaves (c.hold.ensures.holds ∙ kept-hold c.args.image.now (site_by c.args.spot.now.slot c.args.seen.now.address)
         c.args.spot.now.limits c.in-Some.access c.requires.tells.limits c.hold.ensures.small
-        (subst (λ (o : Option Touched). StaysInRanges c.args.image.now (site_by c.args.spot.now.slot c.args.seen.now.address) o) c.in-Some.access-is stays)))
+        (subst (λ (o : Option Touched). StaysInRanges c.args.image.now (site_by c.args.spot.now.slot c.args.seen.now.address) o) c.in-Some.is stays)))
 
 pub returns-in-Some-clause-no : goal.returns-in-Some-clause-no
 returns-in-Some-clause-no c =
     OnFalse_from (not c.hold.result) _ (λ stays.
-        subst (λ (o : Option Touched). StaysInRanges c.args.image.now (site_by c.args.spot.now.slot c.args.seen.now.address) o) (sym c.in-Some.access-is)
+        subst (λ (o : Option Touched). StaysInRanges c.args.image.now (site_by c.args.spot.now.slot c.args.seen.now.address) o) (sym c.in-Some.is)
         (hold-kept c.args.image.now (site_by c.args.spot.now.slot c.args.seen.now.address) c.args.spot.now.limits c.in-Some.access
         c.requires.tells.limits c.hold.ensures.small (sym c.hold.ensures.holds ∙ not-false c.hold.result stays)))

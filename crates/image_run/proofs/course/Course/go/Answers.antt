@@ -1,13 +1,11 @@
-use Rattle.std.proofs.Common.{rules, ◌≡◌, ℕ, ◌+◌, ◌<◌, ◌≤◌, ◌^◌, Some, length, slice_get, ◌-◌, ◌*◌, ◌/◌, ◌%◌, Bool, true, false, nat_eq, nat_lt, List, [], ◌∷◌, ◌++◌, slice_index_or, slice_set, bit_and, bit_or, Fits, w8, w32, w64, Bor, MutBor}
-use Rattle.std.specs.Bool.{OnFalse, OnTrue}
-use Rattle.cache_config.specs.Limits.{most_steps}
-use Rattle.flow_net.specs.Numbers.{IsNumberOf, item_at}
-use Rattle.flow_net.specs.declared.net.Place.{Place}
-use Rattle.image_run.specs.Course.{Goes, GoesBackFrom, IsBackFrom, IsCourse, IsJudged, IsRunnable, StaysInRanges}
-use Rattle.image_run.specs.Road.{IsRoad, IsSpotAt, site_by}
-use Rattle.image_run.specs.declared.report.Verdict.{Verdict}
+-- A run that broke a rule stays broken.
+use Rattle.image_run.proofs.Exits.{stays-broken}
 use Rattle.image_run.proofs.course.Course.go.Goals as goal
 
--- src/follow.rt:105:5
 pub returns-in-Broken : goal.returns-in-Broken
-returns-in-Broken c = ?
+returns-in-Broken c = record {
+  goes = stays-broken c.args.program.now c.args.self.now c.step.new.self c.step.result c.requires.course
+      (record { machine = c.step.ensures.machine; small = c.step.ensures.small; steps = c.step.ensures.steps })
+      c.in-Broken.kind c.in-Broken.address c.in-Broken.is c.step.ensures.verdict;
+  counts = c.step.ensures.steps;
+}
