@@ -90,11 +90,18 @@ returns-in-Returned c =
     c.last_data.result c.step-outcome.new.self.machine.last c.pc-address.ensures
     (context-here program units old fol c.as_slice.result.now zeros c.as_slice.ensures) c.kind-link.ensures c.pc-next.ensures c.last_data.ensures
     (subst (IsJudged program.image.now program.net.now spot _) kept c.judge-verdict.ensures) in
+    let final : Course = record {
+      machine = c.step-outcome.new.self.machine;
+      steps = c.step-outcome.new.self.steps;
+      place = c.step-outcome.new.self.place;
+      turns = c.step-outcome.new.self.turns;
+      verdict = c.judge-verdict.result;
+    } in
     record {
-      goes = subst (λ (o : Outcome). Goes program o _) (sym c.in-Returned.is)
+      goes = subst (λ (o : Outcome). Goes program o final) (sym c.in-Returned.is)
           (exit-returned program c.requires.runnable old c.requires.course c.requires.kept c.visit.new.self c.if-not-visit.ensures.kept
-          c.step-outcome.new.self.machine did spot tells judged _
-          (subst (IsStepOf program old _) c.in-Returned.is
+          c.step-outcome.new.self.machine did spot tells judged final
+          (subst (IsStepOf program old final) c.in-Returned.is
           (record { machine = c.step-outcome.ensures.machine; small = c.step-outcome.ensures.small; steps = c.step-outcome.ensures.steps })) kept);
       counts = c.step-outcome.ensures.steps;
     }
@@ -154,11 +161,18 @@ returns c =
     let going : c.step-outcome.result ≡ Going = outcome-going c.step-outcome.result c.in_default.not-Trap c.in_default-outcome.not-Returned in
     let on : record { outcome = Going; machine = c.step-outcome.new.self.machine } ≡ whole_step old.machine =
     subst (λ (o : Outcome). record { outcome = o; machine = c.step-outcome.new.self.machine } ≡ whole_step old.machine) going c.step-outcome.ensures.machine in
+    let final : Course = record {
+      machine = c.step-outcome.new.self.machine;
+      steps = c.step-outcome.new.self.steps;
+      place = c.in-Some.behind;
+      turns = c.step-outcome.new.self.turns;
+      verdict = c.judge-verdict.result;
+    } in
     record {
-      goes = subst (λ (o : Outcome). Goes program o _) (sym going)
+      goes = subst (λ (o : Outcome). Goes program o final) (sym going)
           (exit-going program c.requires.runnable old c.requires.course c.requires.kept c.visit.new.self c.if-not-visit.ensures.kept
-          c.step-outcome.new.self.machine did spot tells judged on _ refl
-          (subst (IsStepOf program old _) going
+          c.step-outcome.new.self.machine did spot tells judged on final refl
+          (subst (IsStepOf program old final) going
           (record { machine = c.step-outcome.ensures.machine; small = c.step-outcome.ensures.small; steps = c.step-outcome.ensures.steps })) kept
           c.step-outcome.ensures.turns c.visit.ensures.sized
           (respell program.net.now c.kind-link.result (kind_by spot.link old.machine.values.regs) fol.place.at.place.address old.machine.values.pc
