@@ -15,4 +15,5 @@ pub mod Linking
 pub mod Judging
 pub mod Beginning
 pub mod Exits
+pub mod Breaking
 pub mod Reporting

@@ -21,6 +21,7 @@ use Rattle.image_run.specs.Course.{IsCourse, IsFollowed, IsReturned, IsTrapped, 
 use Rattle.image_run.specs.Reports.{IsHeadlineRun, IsReport, IsStop, units_along, units_visited}
 use Rattle.image_run.specs.Verdicts.{IsVerdict, KeepAll}
 use Rattle.image_run.proofs.Beginning.{start-code}
+use Rattle.image_run.proofs.Breaking.{kept-verdict}
 use Rattle.image_run.proofs.Growing.{going-run}
 
 -- What a report takes from a course.
@@ -50,6 +51,11 @@ pub returned-report : (program : Program) (course : Course) (report : RunReport)
 returned-report program course report is few of =
     let m : Machine = machine_of program in
     let count = is.steps in
+    let told : IsVerdict program.image.now program.entry (units_visited report.stop m is.machines) report.verdict =
+    subst (λ (end : Stop). IsVerdict program.image.now program.entry (units_visited end m is.machines) report.verdict) (sym of.stop)
+    (subst (IsVerdict program.image.now program.entry (units_along m is.machines)) (sym of.verdict)
+    (subst (λ (units : List RunUnit). IsVerdict program.image.now program.entry units course.verdict)
+    (sym (along-done program is.machines is.start)) is.verdict)) in
     record {
       machines = is.machines;
       run = is.run;
@@ -57,10 +63,8 @@ returned-report program course report is few of =
       steps = of.steps ∙ sym is.steps;
       cycles = of.cycles ∙ ap (λ (k : Machine). k.cycles) (sym is.last);
       caches = of.caches ∙ ap (λ (k : Machine). k.caches.tallies) (sym is.last);
-      verdict = subst (λ (end : Stop). IsVerdict program.image.now program.entry (units_visited end m is.machines) report.verdict) (sym of.stop)
-          (subst (IsVerdict program.image.now program.entry (units_along m is.machines)) (sym of.verdict)
-          (subst (λ (units : List RunUnit). IsVerdict program.image.now program.entry units course.verdict)
-          (sym (along-done program is.machines is.start)) is.verdict));
+      verdict = told;
+      kept = kept-verdict program.image.now program.entry (units_visited report.stop m is.machines) report.verdict told;
     }
 
 pub trapped-report : (program : Program) (course : Course) (report : RunReport) (kind : TrapKind) (address : ℕ) →
@@ -71,6 +75,12 @@ trapped-report program course report kind address is few of =
     let count = is.steps in
     let trap : (whole_step (last_machine m is.machines)).outcome ≡ Trap kind address =
     ap (λ (k : Machine). (whole_step k).outcome) is.last ∙ is.trap in
+    let told : IsVerdict program.image.now program.entry (units_visited report.stop m is.machines) report.verdict =
+    subst (λ (end : Stop). IsVerdict program.image.now program.entry (units_visited end m is.machines) report.verdict) (sym of.stop)
+    (subst (IsVerdict program.image.now program.entry (units_along m (is.machines ++ last_machine m is.machines ∷ []))) (sym of.verdict)
+    (subst (λ (k : Machine). IsVerdict program.image.now program.entry (units_along m (is.machines ++ k ∷ [])) course.verdict) (sym is.last)
+    (subst (λ (units : List RunUnit). IsVerdict program.image.now program.entry units course.verdict)
+    (sym (along-done program (is.machines ++ course.machine ∷ []) is.start)) is.verdict))) in
     record {
       machines = is.machines;
       run = going-run m is.machines is.going;
@@ -78,11 +88,8 @@ trapped-report program course report kind address is few of =
       steps = of.steps ∙ sym is.steps;
       cycles = of.cycles ∙ ap (λ (k : Machine). k.cycles) (sym is.last);
       caches = of.caches ∙ ap (λ (k : Machine). k.caches.tallies) (sym is.last);
-      verdict = subst (λ (end : Stop). IsVerdict program.image.now program.entry (units_visited end m is.machines) report.verdict) (sym of.stop)
-          (subst (IsVerdict program.image.now program.entry (units_along m (is.machines ++ last_machine m is.machines ∷ []))) (sym of.verdict)
-          (subst (λ (k : Machine). IsVerdict program.image.now program.entry (units_along m (is.machines ++ k ∷ [])) course.verdict) (sym is.last)
-          (subst (λ (units : List RunUnit). IsVerdict program.image.now program.entry units course.verdict)
-          (sym (along-done program (is.machines ++ course.machine ∷ []) is.start)) is.verdict)));
+      verdict = told;
+      kept = kept-verdict program.image.now program.entry (units_visited report.stop m is.machines) report.verdict told;
     }
 
 -- What is followed is the verdict so far.
@@ -95,6 +102,12 @@ pub steps-report : (program : Program) (course : Course) (report : RunReport) �
     IsOf course stop.Steps report → IsReport program.image.now program.profile.now program.entry report
 steps-report program course report is all of =
     let m : Machine = machine_of program in
+    let told : IsVerdict program.image.now program.entry (units_visited report.stop m is.machines) report.verdict =
+    subst (λ (end : Stop). IsVerdict program.image.now program.entry (units_visited end m is.machines) report.verdict) (sym of.stop)
+    (subst (IsVerdict program.image.now program.entry (units_along m is.machines)) (sym of.verdict)
+    (subst (λ (units : List RunUnit). IsVerdict program.image.now program.entry units course.verdict)
+    (sym (along-done program is.machines is.start))
+    (followed-verdict program (units_done program is.machines) course course.verdict is.verdict))) in
     record {
       machines = is.machines;
       run = going-run m is.machines is.going;
@@ -102,11 +115,8 @@ steps-report program course report is all of =
       steps = of.steps ∙ sym is.steps;
       cycles = of.cycles ∙ ap (λ (k : Machine). k.cycles) (sym is.last);
       caches = of.caches ∙ ap (λ (k : Machine). k.caches.tallies) (sym is.last);
-      verdict = subst (λ (end : Stop). IsVerdict program.image.now program.entry (units_visited end m is.machines) report.verdict) (sym of.stop)
-          (subst (IsVerdict program.image.now program.entry (units_along m is.machines)) (sym of.verdict)
-          (subst (λ (units : List RunUnit). IsVerdict program.image.now program.entry units course.verdict)
-          (sym (along-done program is.machines is.start))
-          (followed-verdict program (units_done program is.machines) course course.verdict is.verdict)));
+      verdict = told;
+      kept = kept-verdict program.image.now program.entry (units_visited report.stop m is.machines) report.verdict told;
     }
 
 -- A run that returned and kept all rules is one that the headline speaks of.

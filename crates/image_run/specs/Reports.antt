@@ -14,7 +14,8 @@ use Rattle.net_model.specs.Runs.{KeepsRecords}
 use Rattle.image_run.specs.declared.report.RunReport.{RunReport}
 use Rattle.image_run.specs.declared.report.Stop.{Stop}
 use Rattle.image_run.specs.declared.report.Stop.TheVariants as stop
-use Rattle.image_run.specs.Verdicts.{IsVerdict}
+use Rattle.image_run.specs.declared.report.Verdict.TheVariants.{Kept}
+use Rattle.image_run.specs.Verdicts.{IsVerdict, KeepAll}
 
 abbrev pub zero_registers : Regs
 zero_registers = record { general = replicate 32 0; hi = 0; lo = 0 }
@@ -62,6 +63,7 @@ pub record IsReport (image : Image) (profile : Profile) (entry : ℕ) (report : 
   pub caches : report.caches ≡ (last_machine (first_machine image profile entry) machines).caches.tallies
   -- Whether the units that it visited keep the records and return to their callers.
   pub verdict : IsVerdict image entry (units_visited report.stop (first_machine image profile entry) machines) report.verdict
+  pub kept : KeepAll image entry (units_visited report.stop (first_machine image profile entry) machines) → report.verdict ≡ Kept
 
 -- The run that a report tells of is one that the headline speaks of: a run of the machine from a start, which keeps the
 -- records and returns to its callers, and whose entry has returned.

@@ -69,6 +69,12 @@ fn leaves_range(spot: &Spot, seen: &Seen, image: &Image) -> bool
     }
 }
 
+fn broken(kind: BrokenKind, address: u32) -> Verdict
+    ensures { result ≡ Verdict.Broken kind address }
+{
+    Verdict::Broken { kind, address }
+}
+
 /// The first rule that a unit breaks behind its visit.
 fn judge(program: &Program, road: &Road, spot: &Spot, seen: &Seen) -> Verdict
     requires road { IsRoad program.now.image.now program.now.net.now road.now }
@@ -77,22 +83,13 @@ fn judge(program: &Program, road: &Road, spot: &Spot, seen: &Seen) -> Verdict
     ensures { IsJudged program.now.image.now program.now.net.now spot.now seen.now result }
 {
     if spot.indirect && !road.goes_to(program.image, program.net, seen.address, seen.next) {
-        return Verdict::Broken {
-            kind: BrokenKind::Target,
-            address: seen.address,
-        };
+        return broken(BrokenKind::Target, seen.address);
     }
     if leaves_range(spot, seen, program.image) {
-        return Verdict::Broken {
-            kind: BrokenKind::Range,
-            address: site_by(spot.slot, seen.address),
-        };
+        return broken(BrokenKind::Range, site_by(spot.slot, seen.address));
     }
     if returns_aside(program.net, seen) {
-        return Verdict::Broken {
-            kind: BrokenKind::Return,
-            address: seen.address,
-        };
+        return broken(BrokenKind::Return, seen.address);
     }
     Verdict::Kept
 }
