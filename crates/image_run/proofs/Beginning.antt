@@ -1,15 +1,12 @@
 -- A run before its first unit.
-use Rattle.std.proofs.Common.{◌≡◌, ℕ, ◌*◌, ◌≤◌, List, [], ◌∷◌, ◌++◌, All, Option, Some, get_or, refl, ap, sym, subst, ◌∙◌, arith}
+use Rattle.std.proofs.Common.{◌≡◌, ℕ, List, [], get_or, refl, ap, sym, subst, ◌∙◌, arith}
 use Rattle.std.proofs.Math.Path.{fun_ext}
 use Rattle.std.proofs.lemmas.List.Elements.{All-nil}
 use Rattle.std.proofs.lemmas.Option.{get_or_from_slice_get}
 use Rattle.cache_config.specs.declared.profile.Profile.{Profile}
 use Rattle.elf_mips.specs.declared.image.Image.{Image}
 use Rattle.elf_mips.specs.Segments.{code_at as image_code}
-use Rattle.flow_net.specs.Visits.{KeepsBounds}
-use Rattle.flow_net.specs.declared.net.Net.{Net}
 use Rattle.flow_net.specs.declared.net.NetArc.{NetArc}
-use Rattle.flow_net.proofs.Numbers.{item_at-same}
 use Rattle.mips_decode.specs.Calls.{ReturnsToCaller}
 use Rattle.mips_decode.specs.Records.{KeepsTargets}
 use Rattle.mips_decode.specs.State.{code_at}
@@ -22,7 +19,7 @@ use Rattle.net_model.specs.Targets.{targets_at}
 use Rattle.image_run.specs.declared.course.Course.{Course}
 use Rattle.image_run.specs.declared.course.Program.{Program}
 use Rattle.image_run.specs.declared.report.Verdict.TheVariants.{Kept}
-use Rattle.image_run.specs.Course.{IsCourse, IsFollowed, IsFollowing, IsRunnable, machine_of, most_of_unit, units_done}
+use Rattle.image_run.specs.Course.{IsCourse, IsFollowed, IsFollowing, IsRunnable, machine_of}
 use Rattle.image_run.specs.Ranges.{KeepsRange, ranges_at}
 use Rattle.image_run.specs.Turns.{AreTracked, IsSized}
 use Rattle.image_run.specs.Verdicts.{KeepAll}

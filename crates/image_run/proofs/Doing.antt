@@ -1,5 +1,5 @@
 -- What a step of the machine at a unit of a program did, whatever the records say of it.
-use Rattle.std.proofs.Common.{◌≡◌, ℕ, ◌+◌, ◌==◌, Bool, true, false, cond, List, [], ◌∷◌, Option, Some, None, is_some, refl, ap, sym, subst, ◌∙◌, arith}
+use Rattle.std.proofs.Common.{◌≡◌, ℕ, ◌+◌, ◌==◌, Bool, true, false, cond, [], ◌∷◌, Option, Some, None, is_some, refl, ap, sym, subst, ◌∙◌, arith}
 use Rattle.std.proofs.lemmas.Bool.Decides.{nat_tests}
 use Rattle.elf_mips.specs.declared.image.Image.{Image}
 use Rattle.elf_mips.specs.Segments.{code_at}
@@ -7,15 +7,15 @@ use Rattle.mips_decode.specs.declared.instr.Instr.{Instr}
 use Rattle.mips_decode.specs.declared.step.TrapKind.TheVariants.{Unknown}
 use Rattle.mips_decode.specs.State.{State, return_address}
 use Rattle.mips_decode.specs.Effect.{Effect, Does, Traps, effect}
-use Rattle.mips_decode.specs.Transfer.{Decided, Linking, Straight, decided}
-use Rattle.mips_decode.specs.Step.{Done, Fetched, Found, Missing, Stepped, Went, Returned, Trapped, ended, fetched, plain_done, slot_done, slot_fetched, unit_fetched, unit_of, value_step}
+use Rattle.mips_decode.specs.Transfer.{Decided, Straight, decided}
+use Rattle.mips_decode.specs.Step.{Done, Fetched, Found, Missing, Stepped, Went, Returned, Trapped, fetched, plain_done, slot_done, slot_fetched, unit_fetched, unit_of, value_step}
 use Rattle.net_model.specs.declared.unit.CodeUnit.{CodeUnit}
 use Rattle.net_model.specs.declared.unit.Content.TheVariants.{Unit as Stands}
 use Rattle.net_model.specs.Targets.{unit_at}
 use Rattle.net_model.specs.Units.{is_transfer}
 use Rattle.net_model.proofs.Contents.{HasSlot, IsFetched, IsFetched-unit, is_some-decided, unit-content}
 use Rattle.image_run.specs.Links.{LeadsTo, linking_by}
-use Rattle.image_run.specs.Road.{slots_in, unit_instrs}
+use Rattle.image_run.specs.Road.{unit_instrs}
 
 -- ---- A unit goes on to another address than the place of return, and returns there.
 abbrev pub Ends : Stepped → Type 0

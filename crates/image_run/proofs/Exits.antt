@@ -1,10 +1,8 @@
 -- How the next unit of a run that kept all rules so far ends.
-use Rattle.std.proofs.Common.{◌≡◌, ℕ, ◌+◌, ◌<◌, ◌⊎◌, inl, inr, List, [], ◌∷◌, ◌++◌, Option, Some, refl, ap, sym, subst, ◌∙◌, arith}
+use Rattle.std.proofs.Common.{◌≡◌, ℕ, inl, inr, List, [], ◌∷◌, ◌++◌, Option, Some, refl, ap, sym, subst, ◌∙◌}
 use Rattle.elf_mips.specs.Segments.{code_at as image_code}
 use Rattle.flow_net.specs.Numbers.{item_at}
 use Rattle.flow_net.specs.declared.net.NetArc.{NetArc}
-use Rattle.flow_net.specs.declared.net.Place.{Place}
-use Rattle.flow_net.proofs.Numbers.{item_at-same}
 use Rattle.mips_decode.specs.Calls.{ReturnsToCaller}
 use Rattle.mips_decode.specs.Effect.{reg}
 use Rattle.mips_decode.specs.Records.{KeepsTargets}
@@ -184,7 +182,7 @@ module _ (program : Program) (runnable : IsRunnable program) (c : Course) (is : 
         link-same =
             ap (λ (k : Machine). linking_of (kind_by spot.link c.machine.values.regs) c.machine.values.pc k.values.pc) did.machine
             ∙ linked program calls c.machine.values did.next did.done tells.unit spot following.place.context tells.stands tells.tells
-                did.was following.place.by
+            did.was following.place.by
 
         -- The run goes on.
         module _ (going : record { outcome = Going; machine = m } ≡ whole_step c.machine) where
@@ -192,6 +190,7 @@ module _ (program : Program) (runnable : IsRunnable program) (c : Course) (is : 
           went = by_form did.was where
             on : WentOn c.machine m (value_step (code_at c.machine.values.regions) c.machine.values)
             on = went-on c.machine m (value_step (code_at c.machine.values.regions) c.machine.values) going
+
             by_form : WasDone (value_step (image_code program.image.now.segments) c.machine.values) did.done did.next →
                 value_step (image_code program.image.now.segments) c.machine.values ≡ Went did.done did.next
             by_form (inl went) = went
@@ -221,8 +220,10 @@ module _ (program : Program) (runnable : IsRunnable program) (c : Course) (is : 
               goes program c d Going is step (subst (IsFollowed program more d) (sym verdict) next) where
                 state : d.machine.values ≡ did.next
                 state = ap (λ (k : Machine). k.values) (same ∙ did.machine)
+
                 stand : stand_behind program more ≡ stand_after (coming program is.machines c.machine)
                 stand = stand-more (record { calls = []; address = program.entry }) units (coming program is.machines c.machine)
+
                 next : IsFollowing program more d
                 next = record {
                   kept = all-kept;

@@ -1,5 +1,5 @@
 -- A run that kept all rules so far, and its next unit.
-use Rattle.std.proofs.Common.{◌≡◌, ℕ, zero, suc, ◌+◌, ◌-◌, ◌==◌, ◌<◌, ◌≤◌, ◌⊎◌, inl, inr, Bool, true, false, get_or, List, [], ◌∷◌, ◌++◌, All, Contains, Option, Some, refl, ap, sym, subst, ◌∙◌, arith}
+use Rattle.std.proofs.Common.{◌≡◌, ℕ, ◌-◌, ◌==◌, Bool, true, false, get_or, List, [], ◌∷◌, ◌++◌, Option, Some, refl, ap, sym, subst, ◌∙◌}
 use Rattle.std.proofs.lemmas.List.{append_assoc}
 use Rattle.std.proofs.lemmas.List.Elements.{All-nil, All-push}
 use Rattle.elf_mips.specs.declared.image.Image.{Image}
@@ -10,25 +10,23 @@ use Rattle.flow_net.proofs.Numbers.{item_at-same}
 use Rattle.flow_net.specs.declared.net.Net.{Net}
 use Rattle.flow_net.specs.declared.net.NetArc.{NetArc}
 use Rattle.flow_net.specs.declared.net.Place.{Place}
-use Rattle.mips_decode.specs.Calls.{ReturnsToCaller, calls_after, calls_after_link}
+use Rattle.mips_decode.specs.Calls.{ReturnsToCaller, calls_after_link}
 use Rattle.mips_decode.specs.Effect.{reg}
 use Rattle.mips_decode.specs.Records.{KeepsTargets}
 use Rattle.mips_decode.specs.Run.{Joins}
-use Rattle.mips_decode.specs.State.{State, code_at, return_address}
+use Rattle.mips_decode.specs.State.{State, return_address}
 use Rattle.mips_decode.specs.Table.{IsValid}
 use Rattle.mips_decode.specs.declared.instr.BranchOp.TheVariants.{Beq, Bne, Blez, Bgtz, Bltz, Bgez, Bltzal, Bgezal}
 use Rattle.mips_decode.specs.declared.instr.Instr.{Instr}
 use Rattle.mips_decode.specs.declared.instr.Instr.TheVariants.{Three, Shift, HiLo, MulDiv, Imm, Lui, Load, Store, Branch, Jump, JumpReg, JumpLink, Stop}
-use Rattle.mips_decode.specs.Step.{Done, Stepped, Went, Returned, Trapped, value_step}
-use Rattle.mips_decode.specs.Transfer.{Call, Linking, linking_of}
-use Rattle.mips_decode.specs.Units.{ReturnsToCallers, RunUnit, Stand, stand_after, stand_end, visits}
+use Rattle.mips_decode.specs.Step.{Done, Stepped, Went, Trapped, value_step}
+use Rattle.mips_decode.specs.Transfer.{Call, linking_of}
+use Rattle.mips_decode.specs.Units.{RunUnit, Stand, stand_after, visits}
 use Rattle.mips_decode.specs.declared.step.TrapKind.{TrapKind}
 use Rattle.mips_decode.specs.declared.transfer.LinkKind.{LinkKind}
-use Rattle.mips_machine.specs.Machine.{Machine}
 use Rattle.net_model.specs.declared.unit.CodeUnit.{CodeUnit}
 use Rattle.net_model.specs.declared.unit.Content.TheVariants.{Unit as Stands}
 use Rattle.net_model.specs.Contexts.{IsContextOf}
-use Rattle.net_model.specs.Net.{IsNet}
 use Rattle.net_model.specs.Places.{IsPlaceOf}
 use Rattle.net_model.specs.Runs.{AreMoments, AreVisited, IsPlaceFor, IsUnitTold}
 use Rattle.net_model.specs.Targets.{targets_at, unit_at}
@@ -40,16 +38,15 @@ use Rattle.image_run.specs.declared.course.Program.{Program}
 use Rattle.image_run.specs.declared.turns.Turns.{Turns}
 use Rattle.image_run.specs.declared.report.BrokenKind.{BrokenKind}
 use Rattle.image_run.specs.declared.report.BrokenKind.TheVariants as broken
-use Rattle.image_run.specs.Course.{IsFollowing, IsRunnable, stand_behind, units_done}
+use Rattle.image_run.specs.Course.{IsFollowing, IsRunnable, stand_behind}
 use Rattle.image_run.specs.Ranges.{KeepsRange, ranges_at}
 use Rattle.image_run.specs.declared.spots.Spot.{Spot}
 use Rattle.image_run.specs.Links.{IsLow, link_in, return_link}
 use Rattle.image_run.specs.Road.{IsPlaceBehind, IsSpotAt}
 use Rattle.image_run.specs.Turns.{AreTracked, IsOver, IsVisited}
-use Rattle.image_run.specs.Verdicts.{Breaks, IsBroken, KeepAll, KeepLoops}
+use Rattle.image_run.specs.Verdicts.{IsBroken, KeepAll, KeepLoops}
 use Rattle.image_run.proofs.Headed.{place-read}
-use Rattle.image_run.proofs.Passing.{coming}
-use Rattle.image_run.proofs.Rules.{WasDone, behind-context, context-behind}
+use Rattle.image_run.proofs.Rules.{behind-context, context-behind}
 use Rattle.image_run.proofs.Turning.{tracks-kept}
 use Rattle.image_run.proofs.Visiting.{loops-broken, loops-kept, visited-more, visits-append}
 

@@ -1,18 +1,12 @@
 -- A run that goes on by one unit.
-use Rattle.std.proofs.Common.{◌≡◌, ℕ, suc, ◌+◌, List, [], ◌∷◌, ◌++◌, All, length, map, Option, refl, ap, sym, subst, ◌∙◌, arith}
-use Rattle.std.specs.List.{AllZip}
-use Rattle.std.proofs.lemmas.List.{append_assoc}
-use Rattle.std.proofs.lemmas.List.Elements.{All-append, All-cons, All-nil}
-use Rattle.elf_mips.specs.declared.image.Image.{Image}
-use Rattle.mips_decode.specs.Calls.{calls_after}
+use Rattle.std.proofs.Common.{◌≡◌, ℕ, ◌+◌, List, [], ◌∷◌, ◌++◌, length, Option, refl, ap, sym, subst, ◌∙◌, arith}
 use Rattle.mips_decode.specs.Run.{last_state}
 use Rattle.mips_decode.specs.State.{State}
-use Rattle.mips_decode.specs.Step.{Stepped, Went, Returned, Trapped, value_step}
-use Rattle.mips_decode.specs.Transfer.{Call}
-use Rattle.mips_decode.specs.Units.{RunUnit, Stand, stand_after, stand_end, units_from, units_of}
+use Rattle.mips_decode.specs.Step.{value_step}
+use Rattle.mips_decode.specs.Units.{RunUnit, Stand, stand_after, stand_end, units_of}
 use Rattle.mips_decode.proofs.UnitsEnd.{units-grow}
 use Rattle.mips_machine.specs.declared.outcome.Outcome.{Outcome}
-use Rattle.mips_machine.specs.declared.outcome.Outcome.TheVariants.{Going, Returned as HasEnded, Trap}
+use Rattle.mips_machine.specs.declared.outcome.Outcome.TheVariants.{Going, Returned as HasEnded}
 use Rattle.mips_machine.specs.Machine.{After, Machine, whole_step}
 use Rattle.mips_machine.specs.Run.{Follows, IsMachineRun, last_machine, values_of}
 use Rattle.image_run.specs.Reports.{AreGoing}

@@ -1,5 +1,5 @@
 -- A visit of a place, which may be the header of its innermost loop.
-use Rattle.std.proofs.Common.{◌≡◌, ℕ, zero, suc, ◌+◌, ◌-◌, ◌<◌, ◌≤◌, ◌⊎◌, inl, inr, List, [], ◌∷◌, ◌++◌, length, get_or, set, Some, refl, ap, sym, subst, ◌∙◌, arith}
+use Rattle.std.proofs.Common.{◌≡◌, ℕ, zero, suc, ◌-◌, ◌<◌, ◌⊎◌, inl, inr, List, [], ◌∷◌, ◌++◌, length, get_or, Some, refl, ap, sym, subst, ◌∙◌, arith}
 use Rattle.std.specs.Prelude.{slice_index, slice_set}
 use Rattle.std.proofs.lemmas.Bool.{cases_eq}
 use Rattle.std.proofs.lemmas.Option.{none-some}
@@ -12,7 +12,7 @@ use Rattle.flow_net.specs.declared.net.Place.{Place}
 use Rattle.flow_net.proofs.Headers.{header-scope}
 use Rattle.flow_net.proofs.Numbers.{item_at-all, item_at-same, item_at-there, item_at-within}
 use Rattle.image_run.specs.declared.turns.Turns.{Turns}
-use Rattle.image_run.specs.Turns.{AreTracked, IsNoTurn, IsOver, IsSized, IsTurn, IsVisited, Tracks}
+use Rattle.image_run.specs.Turns.{IsNoTurn, IsOver, IsSized, IsTurn, IsVisited, Tracks}
 use Rattle.image_run.proofs.Turning.{tracks-over, tracks-past, tracks-turn}
 
 module _ (net : Net) (nested : IsNested net) (n : ℕ) (place : Place) (there : item_at n net.places ≡ Some place) where
@@ -27,7 +27,7 @@ module _ (net : Net) (nested : IsNested net) (n : ℕ) (place : Place) (there : 
   visit-past before after from left away visited are = record {
     loops = λ scope inst at.
         let differ : n ≡ inst.header → ⊥ = λ same.
-            away inst (subst (λ (k : ℕ). item_at k net.loops ≡ Some inst) (sym (own-scope scope inst at same)) at) same in
+        away inst (subst (λ (k : ℕ). item_at k net.loops ≡ Some inst) (sym (own-scope scope inst at same)) at) same in
         subst (λ (f : ℕ). Tracks net scope inst (visited ++ n ∷ []) f (slice_index after.left.items scope)) (sym from)
         (subst (λ (list : List ℕ). Tracks net scope inst (visited ++ n ∷ []) n (slice_index list scope)) (sym left)
         (tracks-past net scope inst visited before.from (slice_index before.left.items scope) n differ (are.loops scope inst at)));
@@ -48,6 +48,7 @@ module _ (net : Net) (nested : IsNested net) (n : ℕ) (place : Place) (there : 
       within =
           let inside = (item_at-within net.loops place.scope inst at).within in
           let size = sized.size in omega (arith, inside, size)
+
       by_scope : (scope : ℕ) (other : LoopInst) → item_at scope net.loops ≡ Some other → ((scope ≡ place.scope) ⊎ (scope ≡ place.scope → ⊥)) →
           Tracks net scope other (visited ++ n ∷ []) n (slice_index (slice_set before.left.items place.scope number) scope)
       by_scope scope other is (inl same) =

@@ -1,11 +1,11 @@
 -- What the code sees of a unit that was done tells which rules it keeps.
-use Rattle.std.proofs.Common.{◌≡◌, ℕ, ◌+◌, ◌⊎◌, inl, inr, Bool, true, List, [], ◌∷◌, ◌++◌, Contains, Option, Some, None, is_some, refl, ap, sym, subst, ◌∙◌}
+use Rattle.std.proofs.Common.{◌≡◌, ℕ, inl, inr, Bool, List, [], ◌∷◌, ◌++◌, Option, Some, None, is_some, refl, ap, sym, subst, ◌∙◌}
 use Rattle.elf_mips.specs.Segments.{code_at as image_code}
 use Rattle.mips_decode.specs.Accesses.{data_site}
 use Rattle.mips_decode.specs.Calls.{ReturnsToCaller}
 use Rattle.mips_decode.specs.Records.{KeepsTargets}
 use Rattle.mips_decode.specs.State.{State}
-use Rattle.mips_decode.specs.Step.{Done, Stepped, Went, Returned, value_step}
+use Rattle.mips_decode.specs.Step.{Done, Stepped, value_step}
 use Rattle.mips_decode.specs.Transfer.{Call, linking_of}
 use Rattle.mips_decode.specs.Units.{RunUnit}
 use Rattle.mips_decode.specs.declared.instr.Instr.{Instr}
@@ -19,8 +19,8 @@ use Rattle.image_run.specs.declared.report.BrokenKind.{BrokenKind}
 use Rattle.image_run.specs.declared.report.BrokenKind.TheVariants as broken
 use Rattle.image_run.specs.declared.report.Verdict.TheVariants.{Broken}
 use Rattle.image_run.specs.declared.spots.Spot.{Spot}
-use Rattle.image_run.specs.Course.{GoesRecorded, IsJudged, KeepsRules, LeavesRange, MissesTarget, ReturnsAside, StaysInRanges}
-use Rattle.image_run.specs.Links.{kind_by, link_in}
+use Rattle.image_run.specs.Course.{GoesRecorded, IsJudged, KeepsRules, StaysInRanges}
+use Rattle.image_run.specs.Links.{kind_by}
 use Rattle.image_run.specs.Ranges.{KeepsRange, ranges_at}
 use Rattle.image_run.specs.Road.{IsSpotOf, site_by, unit_instrs}
 use Rattle.image_run.specs.Verdicts.{Breaks, KeepLoops, instructions_of}
@@ -44,7 +44,6 @@ module _ (program : Program) (open_calls : List Call) (s t : State) (done : Done
     (stands : unit_at program.image.now s.pc ≡ Stands unit) (tells : IsSpotOf program.image.now unit s.pc spot)
     (was : WasDone (value_step (image_code program.image.now.segments) s) done t)
     (by : IsContextOf program.net.now.contexts open_calls context) where
-
   abbrev step : Stepped
   step = value_step (image_code program.image.now.segments) s
 

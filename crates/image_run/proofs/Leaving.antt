@@ -1,5 +1,5 @@
 -- The arcs that leave a place, by their numbers.
-use Rattle.std.proofs.Common.{◌≡◌, ℕ, zero, suc, ◌+◌, ◌<◌, ◌≤◌, ◌⊎◌, inl, inr, List, [], ◌∷◌, map, length, get_or, All, Some, refl, ap, sym, subst, ◌∙◌, arith}
+use Rattle.std.proofs.Common.{◌≡◌, ℕ, zero, suc, ◌<◌, ◌≤◌, inl, inr, List, [], ◌∷◌, map, length, get_or, All, Some, refl, ap, sym, subst, ◌∙◌, arith}
 use Rattle.std.specs.Prelude.{IfNone, IfSome, Option, None, slice_get}
 use Rattle.std.proofs.lemmas.Option.{get_or_from_slice_get, none-some, same_Some}
 use Rattle.std.proofs.lemmas.List.Elements.{All-cons, All-head, All-nil, All-tail}
@@ -39,10 +39,10 @@ at-within (a ∷ arcs) (suc position) key there = let rest = at-within arcs posi
 pub leaving-numbers : (arcs : List NetArc) (place : ℕ) → All (IsNumberOf arcs) (numbers_of place 1 (map (λ (a : NetArc). a.from) arcs))
 leaving-numbers arcs place =
     all-in (IsNumberOf arcs) (numbers_of place 1 (map (λ (a : NetArc). a.from) arcs)) (λ n is.
-        let at = numbers_only place 1 (map (λ (a : NetArc). a.from) arcs) n is in
-        let inside = at-within arcs at.position place at.there in
-        let counted = at.counted in
-        record { from_one = omega (arith, counted); within = omega (arith, counted, inside) })
+    let at = numbers_only place 1 (map (λ (a : NetArc). a.from) arcs) n is in
+    let inside = at-within arcs at.position place at.there in
+    let counted = at.counted in
+    record { from_one = omega (arith, counted); within = omega (arith, counted, inside) })
 
 -- What holds of them holds of each arc that leaves the place.
 pub leaving-all : (P : ℕ → Type 0) (arcs : List NetArc) (place number : ℕ) (arc : NetArc) →
@@ -75,7 +75,7 @@ pub behind-none : (net : Net) (kind : LinkKind) (n next : ℕ) (from : Place) �
 behind-none net kind n next from there numbers same (Some to) none = tt
 behind-none net kind n next from there numbers same None none =
     λ at is number arc arc_is leaves behind.
-        let here : at ≡ from = same_Some at from (sym is ∙ there) in
-        leaving-all (IsNoWay net (linking_of kind from.address next) from.context next) net.arcs n number arc
-        (subst (λ (list : List ℕ). All (IsNoWay net (linking_of kind from.address next) from.context next) list) same none) arc_is leaves
-        arc arc_is (subst (λ (p : Place). IsPlaceBehind net (linking_of kind p.address next) p.context next arc.to) here behind)
+    let here : at ≡ from = same_Some at from (sym is ∙ there) in
+    leaving-all (IsNoWay net (linking_of kind from.address next) from.context next) net.arcs n number arc
+    (subst (λ (list : List ℕ). All (IsNoWay net (linking_of kind from.address next) from.context next) list) same none) arc_is leaves
+    arc arc_is (subst (λ (p : Place). IsPlaceBehind net (linking_of kind p.address next) p.context next arc.to) here behind)

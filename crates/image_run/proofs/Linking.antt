@@ -1,16 +1,14 @@
 -- Whether a unit calls or returns, as it is known beforehand.
-use Rattle.std.proofs.Common.{◌≡◌, ℕ, ◌+◌, ◌==◌, Bool, true, false, refl, ap, sym, subst, ◌∙◌}
+use Rattle.std.proofs.Common.{◌≡◌, ℕ, ◌+◌, ◌==◌, Bool, true, false, refl, ap, sym}
 use Rattle.std.specs.Prelude.{if◌then◌else◌, int_le, int_lt, pos}
 use Rattle.mips_decode.specs.Arithmetic.{signed}
 use Rattle.mips_decode.specs.Effect.{reg}
 use Rattle.mips_decode.specs.State.{State}
-use Rattle.mips_decode.specs.Transfer.{Call, Calls, Linking, call_of, linking_of}
-use Rattle.mips_decode.specs.declared.instr.BranchOp.{BranchOp}
+use Rattle.mips_decode.specs.Transfer.{Calls, call_of, linking_of}
 use Rattle.mips_decode.specs.declared.instr.BranchOp.TheVariants.{Beq, Bne, Blez, Bgtz, Bltz, Bgez, Bltzal, Bgezal}
 use Rattle.mips_decode.specs.declared.instr.Instr.{Instr}
 use Rattle.mips_decode.specs.declared.instr.Instr.TheVariants.{Three, Shift, HiLo, MulDiv, Imm, Lui, Load, Store, Branch, Jump, JumpReg, JumpLink, Stop}
 use Rattle.mips_decode.specs.Transfer.{link_of}
-use Rattle.image_run.specs.declared.link.Link.TheVariants as link
 use Rattle.image_run.specs.Links.{IsLinkOf, call_if, kind_by, link_in, return_link}
 
 call-if : (b : Bool) (pc target behind next : ℕ) → (if b then target else behind) ≡ next →

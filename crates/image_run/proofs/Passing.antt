@@ -1,9 +1,8 @@
 -- One unit more: what it leaves of a run on its way.
-use Rattle.std.proofs.Common.{◌≡◌, ℕ, zero, suc, ◌+◌, ◌*◌, ◌<◌, ◌≤◌, ◌^◌, ◌⊎◌, inl, inr, List, [], ◌∷◌, ◌++◌, All, length, map, Option, refl, ap, sym, subst, ◌∙◌, arith}
+use Rattle.std.proofs.Common.{◌≡◌, ℕ, ◌+◌, ◌*◌, ◌<◌, ◌≤◌, List, [], ◌∷◌, ◌++◌, length, refl, ap, sym, subst, ◌∙◌, arith}
 use Rattle.std.proofs.Math.Path.{fun_ext}
-use Rattle.elf_mips.specs.declared.image.Image.{Image}
 use Rattle.elf_mips.specs.Segments.{code_at as image_code}
-use Rattle.mips_decode.specs.Run.{HasReturned, Joins, last_state}
+use Rattle.mips_decode.specs.Run.{Joins}
 use Rattle.mips_decode.specs.State.{State, code_at, return_address}
 use Rattle.mips_decode.specs.Step.{Done, Stepped, Went, Returned as Ended, Trapped, value_step}
 use Rattle.mips_decode.specs.Units.{RunUnit}
@@ -11,16 +10,15 @@ use Rattle.mips_decode.specs.declared.step.TrapKind.{TrapKind}
 use Rattle.mips_machine.specs.declared.outcome.Outcome.{Outcome}
 use Rattle.mips_machine.specs.declared.outcome.Outcome.TheVariants.{Going, Returned, Trap}
 use Rattle.mips_machine.specs.Machine.{After, Machine, after, done_by, whole_step}
-use Rattle.mips_machine.specs.Run.{IsMachineRun, last_machine, values_of}
+use Rattle.mips_machine.specs.Run.{last_machine, values_of}
 use Rattle.mips_machine.proofs.KeptCode.{value_step-code}
-use Rattle.image_run.specs.Course.{Goes, IsCourse, IsFollowed, IsReturned, IsTrapped, counted, machine_of, most_of_unit, stand_behind, units_done}
+use Rattle.image_run.specs.Course.{Goes, IsCourse, IsFollowed, counted, machine_of, most_of_unit, stand_behind, units_done}
 use Rattle.image_run.specs.declared.course.Course.{Course}
 use Rattle.image_run.specs.declared.course.Program.{Program}
-use Rattle.image_run.specs.Reports.{AreGoing}
 use Rattle.image_run.specs.Verdicts.{IsVerdict}
 use Rattle.image_run.proofs.Doing.{Ends, step-ends}
 use Rattle.image_run.proofs.Tallying.{HasTallies, done-tallies}
-use Rattle.image_run.proofs.Growing.{going-more, last-more, last-values, length-more, next_unit, returned-run, start_stand, units-more, values-more}
+use Rattle.image_run.proofs.Growing.{going-more, last-more, last-values, length-more, returned-run, units-more}
 
 -- What the machine did, by what it told.
 pub record WentOn (m n : Machine) (step : Stepped) : Type 0 where

@@ -1,15 +1,11 @@
 -- What is told of a run that came to its end.
-use Rattle.std.proofs.Common.{◌≡◌, ℕ, ◌+◌, ◌<◌, ◌≤◌, List, [], ◌∷◌, ◌++◌, length, Option, Result, Ok, Err, refl, ap, sym, subst, ◌∙◌, arith}
+use Rattle.std.proofs.Common.{◌≡◌, ℕ, ◌<◌, ◌≤◌, List, [], ◌∷◌, ◌++◌, Option, Result, Ok, Err, ap, sym, subst, ◌∙◌, arith}
 use Rattle.std.specs.Prelude.{IfOk}
-use Rattle.elf_mips.specs.Segments.{code_at as image_code}
-use Rattle.mips_decode.specs.State.{code_at}
-use Rattle.mips_decode.specs.Units.{ReturnsToCallers, RunUnit, units_of}
+use Rattle.mips_decode.specs.Units.{RunUnit, units_of}
 use Rattle.mips_decode.specs.declared.step.TrapKind.{TrapKind}
-use Rattle.mips_machine.specs.declared.caches.Tally.{Tally}
 use Rattle.mips_machine.specs.declared.outcome.Outcome.TheVariants.{Trap}
 use Rattle.mips_machine.specs.Machine.{IsMachineStart, Machine, whole_step}
 use Rattle.mips_machine.specs.Run.{last_machine, values_of}
-use Rattle.net_model.specs.Runs.{KeepsRecords}
 use Rattle.image_run.specs.declared.course.Course.{Course}
 use Rattle.image_run.specs.declared.course.Program.{Program}
 use Rattle.image_run.specs.declared.report.RunReport.{RunReport}

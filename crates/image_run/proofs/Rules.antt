@@ -1,13 +1,13 @@
 -- The rules of one unit that was done, as the code sees it and as they are stated.
-use Rattle.std.proofs.Common.{◌≡◌, ℕ, zero, suc, ◌+◌, ◌<◌, ◌⊎◌, inl, inr, Bool, true, false, List, [], ◌∷◌, drop, All, Contains, Option, Some, None, refl, ap, sym, subst, ◌∙◌, arith}
+use Rattle.std.proofs.Common.{◌≡◌, ℕ, ◌+◌, ◌⊎◌, inl, inr, true, false, List, [], ◌∷◌, All, Contains, Option, Some, None, ap, sym, subst, ◌∙◌, arith}
 use Rattle.std.specs.Prelude.{IfSome, slice_get}
 use Rattle.std.proofs.lemmas.Option.{same_Some}
 use Rattle.elf_mips.specs.declared.image.Image.{Image}
 use Rattle.flow_net.specs.declared.net.Context.{Context}
 use Rattle.mips_decode.specs.Accesses.{data_site}
 use Rattle.mips_decode.specs.Calls.{GoesBack, ReturnsToCaller, caller_of, calls_after_link}
-use Rattle.mips_decode.specs.Records.{GoToRecorded, GoesToRecorded, KeepsTargets, needs_target}
-use Rattle.mips_decode.specs.State.{State, return_address}
+use Rattle.mips_decode.specs.Records.{GoToRecorded, KeepsTargets, needs_target}
+use Rattle.mips_decode.specs.State.{State}
 use Rattle.mips_decode.specs.Step.{Done, Stepped, Went, Returned}
 use Rattle.mips_decode.specs.Transfer.{Call, Linking, Straight, Calls, Returns as BackLink, linking_of}
 use Rattle.mips_decode.specs.declared.instr.Instr.{Instr}
@@ -17,7 +17,7 @@ use Rattle.mips_decode.specs.declared.transfer.LinkKind.{LinkKind}
 use Rattle.mips_decode.specs.declared.transfer.LinkKind.TheVariants as link
 use Rattle.net_model.specs.Contexts.{AreContexts, IsContextOf, made_by, root}
 use Rattle.net_model.specs.Units.{is_transfer}
-use Rattle.image_run.specs.Course.{GoesBackFrom, GoesRecorded, IsBackFrom, StaysInRanges}
+use Rattle.image_run.specs.Course.{GoesBackFrom, IsBackFrom, StaysInRanges}
 use Rattle.image_run.specs.Ranges.{KeepsRange, LiesIn, StaysWithin, ranges_at}
 use Rattle.image_run.specs.Road.{IsContextBehind, slots_in, unit_instrs}
 use Rattle.image_run.proofs.Doing.{HasPlainSlot}
@@ -78,6 +78,7 @@ keeps-range image address step done t instrs access was instructions same stays 
   own =
       subst (λ (list : List Instr). IfSome done.access (λ (a : Touched). All (LiesIn a) (ranges_at image (data_site address list)))) (sym instructions)
       (subst (λ (o : Option Touched). IfSome o (λ (a : Touched). All (LiesIn a) (ranges_at image (data_site address instrs)))) (sym same) stays)
+
   by_step : WasDone step done t → KeepsRange (ranges_at image) address step
   by_step (inl went) = subst (KeepsRange (ranges_at image) address) (sym went) own
   by_step (inr ended) = subst (KeepsRange (ranges_at image) address) (sym ended) own
@@ -132,6 +133,7 @@ pub keeps-callers : (contexts : List Context) (open_calls : List Call) (context 
 keeps-callers contexts open_calls context address kind step done t was by same back_to = by_step was where
   own : GoesBack open_calls done.link t.pc
   own = subst (λ (l : Linking). GoesBack open_calls l t.pc) same (link-back contexts open_calls context address t.pc kind by back_to)
+
   by_step : WasDone step done t → ReturnsToCaller open_calls step
   by_step (inl went) = subst (ReturnsToCaller open_calls) (sym went) own
   by_step (inr ended) = subst (ReturnsToCaller open_calls) (sym ended) own
@@ -177,6 +179,6 @@ behind-context image entry contexts are [] from to BackLink by after =
     λ context there. after ∙ sym (root-parent image entry contexts are from context by there)
 behind-context image entry contexts are (call ∷ open_calls) from to BackLink by after =
     λ context there.
-        let own : made_by by.1.0 call.site call.target ≡ context =
-        same_Some (made_by by.1.0 call.site call.target) context (sym by.1.1 ∙ there) in
-        context-one image entry contexts are open_calls to by.1.0 after by.1.2 ∙ ap (λ (c : Context). c.parent) own
+    let own : made_by by.1.0 call.site call.target ≡ context =
+    same_Some (made_by by.1.0 call.site call.target) context (sym by.1.1 ∙ there) in
+    context-one image entry contexts are open_calls to by.1.0 after by.1.2 ∙ ap (λ (c : Context). c.parent) own

@@ -1,10 +1,9 @@
 -- The spots of places, by their numbers.
 use Rattle.std.proofs.Common.{◌≡◌, ℕ, zero, suc, ◌+◌, ◌-◌, ◌<◌, ◌≤◌, List, [], ◌∷◌, ◌++◌, length, take, get_or, Some, refl, ap, sym, subst, ◌∙◌, arith}
-use Rattle.std.specs.List.{AllZip}
 use Rattle.std.proofs.lemmas.List.{take_all, take_more}
 use Rattle.std.proofs.lemmas.Option.{none-some, same_Some}
 use Rattle.elf_mips.specs.declared.image.Image.{Image}
-use Rattle.flow_net.specs.Numbers.{IsNumberOf, item_at}
+use Rattle.flow_net.specs.Numbers.{item_at}
 use Rattle.flow_net.specs.declared.net.Place.{Place}
 use Rattle.image_run.specs.declared.spots.Spot.{Spot}
 use Rattle.image_run.specs.Road.{AreSpots, IsSpotAt}

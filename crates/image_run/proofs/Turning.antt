@@ -1,15 +1,12 @@
 -- What a visit leaves of the visits of each loop.
-use Rattle.std.proofs.Common.{◌≡◌, ℕ, zero, suc, ◌+◌, ◌-◌, ◌<◌, ◌≤◌, ◌⊎◌, inl, inr, List, [], ◌∷◌, ◌++◌, All, length, Some, refl, ap, sym, subst, ◌∙◌, append-nil, arith}
-use Rattle.std.specs.Prelude.{◌↔◌, slice_index, slice_set}
+use Rattle.std.proofs.Common.{◌≡◌, ℕ, suc, List, [], ◌∷◌, ◌++◌, refl, sym, subst, append-nil, arith}
+use Rattle.std.specs.Prelude.{◌↔◌}
 use Rattle.std.proofs.lemmas.List.{append_assoc}
 use Rattle.flow_net.specs.Entering.{IsOutside}
-use Rattle.flow_net.specs.Nested.{IsNested}
-use Rattle.flow_net.specs.Numbers.{item_at}
 use Rattle.flow_net.specs.Scopes.{Holds}
-use Rattle.flow_net.specs.Visits.{KeepsBound, KeepsBounds, ends, enters, passes, returns}
+use Rattle.flow_net.specs.Visits.{KeepsBound, ends, enters, passes, returns}
 use Rattle.flow_net.specs.declared.net.LoopInst.{LoopInst}
 use Rattle.flow_net.specs.declared.net.Net.{Net}
-use Rattle.flow_net.proofs.Holds.{holds-zero}
 use Rattle.image_run.specs.Turns.{IsNoTurn, IsTurn, Tracks}
 
 -- A place that isn't the header passes by.
@@ -73,8 +70,7 @@ behind : (net : Net) (scope : ℕ) (inst : LoopInst) (visited : List ℕ) (from 
     ((more : List ℕ) → KeepsBound net scope inst to after more ↔ KeepsBound net scope inst from left (to ∷ more)) →
     Tracks net scope inst visited from left → Tracks net scope inst (visited ++ to ∷ []) to after
 behind net scope inst visited from left to after step tracks more =
-    let parts : (visited ++ to ∷ []) ++ more ≡ visited ++ to ∷ more = append_assoc visited (to ∷ []) more in
-    (
+    let parts : (visited ++ to ∷ []) ++ more ≡ visited ++ to ∷ more = append_assoc visited (to ∷ []) more in (
       λ keeps. subst (KeepsBound net scope inst 0 0) (sym parts) ((tracks (to ∷ more)).0 ((step more).0 keeps)),
       λ keeps. (step more).1 ((tracks (to ∷ more)).1 (subst (KeepsBound net scope inst 0 0) parts keeps)),
     )

@@ -1,25 +1,20 @@
 -- The places that a run visits: there is one for each stand, and they keep the bounds of the loops.
-use Rattle.std.proofs.Common.{◌≡◌, ℕ, zero, suc, ◌+◌, ◌<◌, ◌≤◌, ◌⊎◌, inl, inr, List, [], ◌∷◌, ◌++◌, map, drop, AllPairs, Some, refl, ap, sym, subst, ◌∙◌, append-nil, arith}
+use Rattle.std.proofs.Common.{◌≡◌, ℕ, zero, suc, ◌<◌, inl, inr, List, [], ◌∷◌, ◌++◌, drop, Some, refl, ap, sym, subst, ◌∙◌, append-nil, arith}
 use Rattle.std.specs.Prelude.{slice_get}
-use Rattle.std.specs.List.{AllZip}
-use Rattle.std.proofs.lemmas.List.{append_assoc}
-use Rattle.std.proofs.lemmas.Option.{none-some, same_Some}
+use Rattle.std.proofs.lemmas.Option.{none-some}
 use Rattle.elf_mips.specs.declared.image.Image.{Image}
 use Rattle.flow_net.specs.Numbers.{item_at}
 use Rattle.flow_net.specs.Visits.{KeepsBound, KeepsBounds}
 use Rattle.flow_net.specs.declared.net.Context.{Context}
-use Rattle.flow_net.specs.declared.net.LoopInst.{LoopInst}
 use Rattle.flow_net.specs.declared.net.Net.{Net}
-use Rattle.flow_net.proofs.Numbers.{item_at-same}
 use Rattle.mips_decode.specs.Transfer.{Call}
 use Rattle.mips_decode.specs.Units.{RunUnit, Stand, visits}
-use Rattle.net_model.specs.Contexts.{AreContexts, IsCallBefore, IsContextBefore, IsContextOf, made_by}
+use Rattle.net_model.specs.Contexts.{AreContexts, IsContextBefore, IsContextOf, made_by}
 use Rattle.net_model.specs.Net.{IsNet}
 use Rattle.net_model.specs.Places.{IsPlaceOf}
 use Rattle.net_model.specs.Runs.{AreVisited, IsPlaceFor}
 use Rattle.call_contexts.proofs.NetItems.{order-once, place-once}
 use Rattle.call_contexts.proofs.NetOnce.{net-once}
-use Rattle.image_run.specs.Turns.{AreTracked}
 use Rattle.image_run.specs.Verdicts.{KeepLoops}
 use Rattle.image_run.proofs.Turning.{keeps-front}
 
@@ -93,7 +88,7 @@ loops-kept image entry net is units places are keeps other also front rest parts
     let (more, same) = visited-front image entry net is (visits front) (visits rest) places first
     (subst (λ (stands : List Stand). AreVisited net stands places) split are) mine in
     λ scope inst there. keeps-front net scope inst first more 0 0
-        (subst (KeepsBound net scope inst 0 0) same (keeps scope inst there)))
+    (subst (KeepsBound net scope inst 0 0) same (keeps scope inst there)))
 
 -- Visits of places that break a bound break it.
 pub loops-broken : (image : Image) (entry : ℕ) (net : Net) → IsNet image entry net → (units : List RunUnit) (places : List ℕ) →

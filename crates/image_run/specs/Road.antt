@@ -1,5 +1,5 @@
 -- What the code knows of the places of a net, and how it finds the next one.
-use Rattle.std.specs.Prelude.{◌≡◌, ℕ, ◌+◌, ◌<◌, ◌^◌, Bool, List, [], ◌∷◌, Option, Some, None, is_some, slice_get, if◌then◌else◌}
+use Rattle.std.specs.Prelude.{◌≡◌, ℕ, ◌+◌, ◌<◌, Bool, List, [], ◌∷◌, Option, Some, None, is_some, slice_get, if◌then◌else◌}
 use Rattle.std.specs.List.{AllZip}
 use Rattle.code_units.specs.Targets.{AreTargets}
 use Rattle.code_units.specs.Ways.{IsPlaced}
@@ -10,7 +10,7 @@ use Rattle.flow_net.specs.declared.net.Net.{Net}
 use Rattle.flow_net.specs.declared.net.NetArc.{NetArc}
 use Rattle.flow_net.specs.declared.net.Place.{Place}
 use Rattle.mips_decode.specs.Records.{needs_target}
-use Rattle.mips_decode.specs.Transfer.{Call, Linking, Straight, Calls, Returns}
+use Rattle.mips_decode.specs.Transfer.{Linking, Straight, Calls, Returns}
 use Rattle.mips_decode.specs.declared.instr.Instr.{Instr}
 use Rattle.net_model.specs.Contexts.{made_by}
 use Rattle.net_model.specs.Targets.{unit_at}

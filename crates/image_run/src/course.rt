@@ -48,7 +48,15 @@ fn first_machine(alloc: Global, program: &Program) -> Result<Machine, AllocError
         lo: 0,
     };
     let caches = Caches::empty(alloc, profile.levels.as_slice(), profile.memory)?;
-    Machine::start(alloc, program.image, profile, program.entry, &zero, &[], caches)
+    Machine::start(
+        alloc,
+        program.image,
+        profile,
+        program.entry,
+        &zero,
+        &[],
+        caches,
+    )
 }
 
 impl Course {

@@ -76,7 +76,13 @@ fn behind_by(net: &Net, from: &Place, link: LinkKind, next: u32, number: u32) ->
     if to == 0 {
         return None;
     }
-    if !is_behind(net.contexts.as_slice(), from, link, next, &net.places.as_slice()[to as usize - 1]) {
+    if !is_behind(
+        net.contexts.as_slice(),
+        from,
+        link,
+        next,
+        &net.places.as_slice()[to as usize - 1],
+    ) {
         return None;
     }
     Some(to)
@@ -158,7 +164,14 @@ impl Road {
 
     /// The place to which the unit of a place goes that calls or returns so, at this address: among those to which the
     /// place's arcs go.
-    pub fn next(&self, image: &Image, net: &Net, place: u32, link: LinkKind, next: u32) -> Option<u32>
+    pub fn next(
+        &self,
+        image: &Image,
+        net: &Net,
+        place: u32,
+        link: LinkKind,
+        next: u32,
+    ) -> Option<u32>
         requires nested { IsNested net.now }
         requires road { IsRoad image.now net.now self.now }
         requires place { IsNumberOf net.now.places place }

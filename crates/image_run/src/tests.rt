@@ -130,7 +130,10 @@ fn loop_misses_its_two_lines_once(rt: HostRuntime) -> Result<(), Fail> {
 #[test]
 fn loop_turns_too_often(rt: HostRuntime) -> Result<(), Fail> {
     let run = run_of(rt.alloc(), &LOOP, &[(1, 0x0040_0004, 4, 0)], "")?;
-    assert_eq!(rt; (run.stop, run.cycles, run.steps), (Stop::Returned, 198, 12));
+    assert_eq!(rt;
+        (run.stop, run.cycles, run.steps),
+        (Stop::Returned, 198, 12)
+    );
     assert_eq!(rt; run.verdict, broken(BrokenKind::Loop, 0x0040_0004));
     Ok(())
 }
@@ -224,7 +227,10 @@ fn calls_a_loop_over_a_table(rt: HostRuntime) -> Result<(), Fail> {
     ];
     let turns = (1, 0x0040_0048, 4, 0);
     let run = run_of(rt.alloc(), &words, &[turns], "")?;
-    assert_eq!(rt; (run.stop, run.cycles, run.steps), (Stop::Returned, 529, 32));
+    assert_eq!(rt;
+        (run.stop, run.cycles, run.steps),
+        (Stop::Returned, 529, 32)
+    );
     assert_eq!(rt; run.verdict, Verdict::Kept);
     // The load in the loop reads all four words. A range that ends a byte before the last one's end is left in the last
     // turn.

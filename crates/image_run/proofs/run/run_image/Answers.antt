@@ -1,5 +1,5 @@
 -- What is told is the run that came to its end.
-use Rattle.std.proofs.Common.{◌≡◌, ◌≤◌, ◌<◌, subst, ◌∙◌, arith}
+use Rattle.std.proofs.Common.{◌≡◌, arith}
 use Rattle.image_run.specs.declared.course.Program.{Program}
 use Rattle.image_run.specs.declared.report.Stop.TheVariants as stop
 use Rattle.image_run.specs.declared.report.Verdict.TheVariants.{Kept}

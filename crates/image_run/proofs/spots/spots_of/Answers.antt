@@ -1,7 +1,5 @@
 -- The spot of one place more.
-use Rattle.std.proofs.Common.{List, [], ◌∷◌, ◌++◌, take, ◌+◌, sym, subst}
-use Rattle.flow_net.specs.declared.net.Place.{Place}
-use Rattle.image_run.specs.declared.spots.Spot.{Spot}
+use Rattle.std.proofs.Common.{take, ◌+◌, sym, subst}
 use Rattle.image_run.specs.Road.{AreSpots}
 use Rattle.image_run.proofs.Spotting.{spots-next}
 use Rattle.image_run.proofs.spots.spots_of.Goals as goal

@@ -2,16 +2,15 @@
 use Rattle.std.proofs.Common.{◌≡◌, ℕ, refl, ap, sym, subst, ◌∙◌}
 use Rattle.flow_net.specs.declared.net.Place.{Place}
 use Rattle.mips_machine.specs.declared.outcome.Outcome.{Outcome}
-use Rattle.mips_machine.specs.declared.outcome.Outcome.TheVariants.{Going, Returned, Trap}
-use Rattle.mips_machine.specs.Machine.{After, whole_step}
+use Rattle.mips_machine.specs.declared.outcome.Outcome.TheVariants.{Going}
+use Rattle.mips_machine.specs.Machine.{whole_step}
 use Rattle.image_run.specs.declared.course.Course.{Course}
 use Rattle.image_run.specs.declared.report.BrokenKind.TheVariants as broken
-use Rattle.image_run.specs.declared.report.Verdict.{Verdict}
 use Rattle.image_run.specs.declared.report.Verdict.TheVariants.{Kept, Broken}
 use Rattle.image_run.specs.Course.{Goes, IsFollowing, IsJudged, units_done}
 use Rattle.image_run.specs.Links.{kind_by}
 use Rattle.image_run.specs.Road.{IsSpotAt}
-use Rattle.image_run.proofs.Exits.{Performed, exit-broken, exit-going, exit-loop, exit-returned, exit-trap, following, looks, must-lead, outcome-going, performed, sees, verdict-kept}
+use Rattle.image_run.proofs.Exits.{Performed, exit-broken, exit-going, exit-loop, exit-returned, exit-trap, following, must-lead, outcome-going, performed, sees, verdict-kept}
 use Rattle.image_run.proofs.Following.{context-here, number-here, respell, spot-here, spot-low}
 use Rattle.image_run.proofs.Passing.{IsStepOf}
 use Rattle.image_run.proofs.course.Course.follow.Goals as goal

@@ -1,5 +1,5 @@
 -- The run stands at the place of the entry.
-use Rattle.std.proofs.Common.{refl, sym}
+use Rattle.std.proofs.Common.{refl}
 use Rattle.image_run.proofs.Beginning.{first-course, first-read}
 use Rattle.image_run.proofs.course.Course.new.Goals as goal
 

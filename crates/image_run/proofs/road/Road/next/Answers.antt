@@ -1,5 +1,5 @@
 -- The numbers are those of the arcs that leave the place.
-use Rattle.std.proofs.Common.{◌≡◌, ℕ, List, All, Some, map, length, get_or, ◌-◌, sym, subst, ◌∙◌, arith}
+use Rattle.std.proofs.Common.{◌≡◌, ℕ, List, All, Some, map, length, get_or, ◌-◌, sym, subst, ◌∙◌}
 use Rattle.flow_net.specs.Numbers.{IsNumberOf, item_at}
 use Rattle.flow_net.specs.declared.net.NetArc.{NetArc}
 use Rattle.flow_net.specs.declared.net.Place.{Place}
