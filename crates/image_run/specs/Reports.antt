@@ -17,6 +17,7 @@ use Rattle.image_run.specs.declared.report.Stop.TheVariants as stop
 use Rattle.image_run.specs.declared.report.Verdict.TheVariants.{Kept}
 use Rattle.image_run.specs.Verdicts.{IsVerdict, KeepAll}
 
+-- Registers that are all zero.
 abbrev pub zero_registers : Regs
 zero_registers = record { general = replicate 32 0; hi = 0; lo = 0 }
 

@@ -62,7 +62,6 @@ fn leaves_range(spot: &Spot, seen: &Seen, image: &Image) -> bool
     ensures yes { OnTrue result (StaysInRanges image.now (site_by spot.now.slot seen.now.address) seen.now.access → ⊥) }
     ensures no { OnFalse result (StaysInRanges image.now (site_by spot.now.slot seen.now.address) seen.now.access) }
 {
-    let _ = image;
     match seen.access {
         Some(access) => !spot.limits.hold(&access),
         None => false,
@@ -140,12 +139,13 @@ impl Course {
             return outcome;
         }
         let next = self.machine.pc();
+        let access = self.machine.last_data();
         let seen = Seen {
             address,
             context,
             link,
             next,
-            access: self.machine.last_data(),
+            access,
         };
         let verdict = judge(program, road, spot, &seen);
         self.verdict = verdict;

@@ -1,7 +1,6 @@
 //! The tables by which a run is followed through its net.
 
-ghost use Rattle.std.specs.Prelude.{◌≡◌, ◌<◌, ◌^◌, ℕ, All, Contains, IfNone, IfOk, IfSome, Some, length};
-ghost use Rattle.std.specs.Prelude.{◌==◌};
+ghost use Rattle.std.specs.Prelude.{◌≡◌, ◌==◌, ◌<◌, ◌^◌, ℕ, All, Contains, IfNone, IfOk, IfSome, Some, length};
 ghost use Rattle.std.specs.Bool.{OnFalse, OnTrue};
 ghost use Rattle.std.specs.List.{list_any};
 ghost use Rattle.elf_mips.specs.declared.mark.Mark.{Mark};
@@ -147,8 +146,6 @@ impl Road {
         requires place { IsNumberOf net.now.places place }
         ensures { (at : Place) → item_at place net.now.places ≡ Some at → IsSpotAt image.now at.address result.now }
     {
-        let _ = image;
-        let _ = net;
         &self.spots[place as usize - 1]
     }
 
@@ -158,7 +155,6 @@ impl Road {
         ensures yes { OnTrue result (Contains (targets_at image.now address) next) }
         ensures no { OnFalse result (Contains (targets_at image.now address) next → ⊥) }
     {
-        let _ = net;
         is_target(image, self.targets.as_slice(), address, next)
     }
 
@@ -181,7 +177,6 @@ impl Road {
             item_at number net.now.arcs ≡ Some arc → arc.from ≡ place →
             IsPlaceBehind net.now (linking_of link at.address next) at.context next arc.to → ⊥) }
     {
-        let _ = image;
         let from = net.places.as_slice()[place as usize - 1];
         let numbers = self.arcs[place as usize].as_slice();
         first_behind(net, &from, link, next, numbers)

@@ -65,8 +65,8 @@ returns-in-Broken c =
           (record { machine = c.step-outcome.ensures.machine; small = c.step-outcome.ensures.small; steps = c.step-outcome.ensures.steps })
           (sees program spot (Broken c.in-Broken.kind c.in-Broken.address) c.pc-address.result old.machine.values.pc _ fol.place.context
           c.pc-next.result c.step-outcome.new.self.machine.values.pc c.kind-link.result (kind_by spot.link old.machine.values.regs)
-          c.last_data.result c.step-outcome.new.self.machine.last c.pc-address.ensures
-          (context-here program units old fol c.as_slice.result.now zeros c.as_slice.ensures) c.kind-link.ensures c.pc-next.ensures c.last_data.ensures
+          c.last_data-access.result c.step-outcome.new.self.machine.last c.pc-address.ensures
+          (context-here program units old fol c.as_slice.result.now zeros c.as_slice.ensures) c.kind-link.ensures c.pc-next.ensures c.last_data-access.ensures
           (subst (IsJudged program.image.now program.net.now spot _) c.in-Broken.is c.judge-verdict.ensures))
           c.in-Broken.is;
       counts = c.step-outcome.ensures.steps;
@@ -86,8 +86,8 @@ returns-in-Returned c =
     let kept : c.judge-verdict.result ≡ Kept = verdict-kept c.judge-verdict.result c.in_default-verdict.not-Broken in
     let judged = sees program spot Kept c.pc-address.result old.machine.values.pc _ fol.place.context
     c.pc-next.result c.step-outcome.new.self.machine.values.pc c.kind-link.result (kind_by spot.link old.machine.values.regs)
-    c.last_data.result c.step-outcome.new.self.machine.last c.pc-address.ensures
-    (context-here program units old fol c.as_slice.result.now zeros c.as_slice.ensures) c.kind-link.ensures c.pc-next.ensures c.last_data.ensures
+    c.last_data-access.result c.step-outcome.new.self.machine.last c.pc-address.ensures
+    (context-here program units old fol c.as_slice.result.now zeros c.as_slice.ensures) c.kind-link.ensures c.pc-next.ensures c.last_data-access.ensures
     (subst (IsJudged program.image.now program.net.now spot _) kept c.judge-verdict.ensures) in
     let final : Course = record {
       machine = c.step-outcome.new.self.machine;
@@ -127,8 +127,8 @@ unreachable-requires c =
     let kept : c.judge-verdict.result ≡ Kept = verdict-kept c.judge-verdict.result c.in_default-verdict.not-Broken in
     let judged = sees program spot Kept c.pc-address.result old.machine.values.pc _ fol.place.context
     c.pc-next.result c.step-outcome.new.self.machine.values.pc c.kind-link.result (kind_by spot.link old.machine.values.regs)
-    c.last_data.result c.step-outcome.new.self.machine.last c.pc-address.ensures
-    (context-here program units old fol c.as_slice.result.now zeros c.as_slice.ensures) c.kind-link.ensures c.pc-next.ensures c.last_data.ensures
+    c.last_data-access.result c.step-outcome.new.self.machine.last c.pc-address.ensures
+    (context-here program units old fol c.as_slice.result.now zeros c.as_slice.ensures) c.kind-link.ensures c.pc-next.ensures c.last_data-access.ensures
     (subst (IsJudged program.image.now program.net.now spot _) kept c.judge-verdict.ensures) in
     let going : c.step-outcome.result ≡ Going = outcome-going c.step-outcome.result c.in_default.not-Trap c.in_default-outcome.not-Returned in
     let on : record { outcome = Going; machine = c.step-outcome.new.self.machine } ≡ whole_step old.machine =
@@ -154,8 +154,8 @@ returns c =
     let kept : c.judge-verdict.result ≡ Kept = verdict-kept c.judge-verdict.result c.in_default-verdict.not-Broken in
     let judged = sees program spot Kept c.pc-address.result old.machine.values.pc _ fol.place.context
     c.pc-next.result c.step-outcome.new.self.machine.values.pc c.kind-link.result (kind_by spot.link old.machine.values.regs)
-    c.last_data.result c.step-outcome.new.self.machine.last c.pc-address.ensures
-    (context-here program units old fol c.as_slice.result.now zeros c.as_slice.ensures) c.kind-link.ensures c.pc-next.ensures c.last_data.ensures
+    c.last_data-access.result c.step-outcome.new.self.machine.last c.pc-address.ensures
+    (context-here program units old fol c.as_slice.result.now zeros c.as_slice.ensures) c.kind-link.ensures c.pc-next.ensures c.last_data-access.ensures
     (subst (IsJudged program.image.now program.net.now spot _) kept c.judge-verdict.ensures) in
     let going : c.step-outcome.result ≡ Going = outcome-going c.step-outcome.result c.in_default.not-Trap c.in_default-outcome.not-Returned in
     let on : record { outcome = Going; machine = c.step-outcome.new.self.machine } ≡ whole_step old.machine =
