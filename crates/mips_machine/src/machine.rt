@@ -156,7 +156,8 @@ impl Machine {
     /// their region by bisection (`Memory::place_at`) and touch only its own bytes.
     pub fn step(&mut self) -> Outcome
         requires { self.old.cycles < 2 ^ 62 }
-        ensures { record { outcome = result; machine = self.new } ≡ whole_step self.old }
+        ensures whole { record { outcome = result; machine = self.new } ≡ whole_step self.old }
+        ensures small { self.new.cycles ≤ self.old.cycles + 2 ^ 26 }
     {
         let pc = self.pc;
         let instr = match fetch(&self.memory, pc) {
