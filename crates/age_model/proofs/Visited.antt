@@ -34,18 +34,33 @@ visited-arcs net caches (Makes access address seen hit ∷ more) = visited-arcs 
 pub visited-walks-on : (net : Net) (range : ℕ → ℕ → Type 0) (caches : List Held) (place : ℕ) (left : List ℕ) (moments : List Moment) →
     WalksOn net range place left moments → WalksOn net range place left (visited net caches moments)
 visited-walks-on net range caches place left [] walk = tt
-visited-walks-on net range caches place left (Takes arc ∷ more) walk =
-    (walk.0, (walk.1.0, (walk.1.1.0, walk.1.1.1, walk.1.1.2,
-    visited-walks-on net range caches walk.1.1.0.to (access_numbers net walk.1.1.0.to) more walk.1.1.3)))
+visited-walks-on net range caches place left (Takes arc ∷ more) walk = (
+  walk.0,
+  (
+    walk.1.0,
+    (
+      walk.1.1.0,
+      walk.1.1.1,
+      walk.1.1.2,
+      visited-walks-on net range caches walk.1.1.0.to (access_numbers net walk.1.1.0.to) more walk.1.1.3,
+    ),
+  ),
+)
 visited-walks-on net range caches place left (Makes access address seen hit ∷ more) walk =
     (walk.0, walk.1, walk.2, visited-walks-on net range (went net access address caches).after place walk.0 more walk.3)
 
 pub visited-walk : (net : Net) (range : ℕ → ℕ → Type 0) (caches : List Held) (moments : List Moment) →
     IsWalk net range moments → IsWalk net range (visited net caches moments)
 visited-walk net range caches [] walk = tt
-visited-walk net range caches (Takes arc ∷ more) walk =
-    (walk.0, (walk.1.0, walk.1.1, walk.1.2,
-    visited-walks-on net range caches walk.1.0.to (access_numbers net walk.1.0.to) more walk.1.3))
+visited-walk net range caches (Takes arc ∷ more) walk = (
+  walk.0,
+  (
+    walk.1.0,
+    walk.1.1,
+    walk.1.2,
+    visited-walks-on net range caches walk.1.0.to (access_numbers net walk.1.0.to) more walk.1.3,
+  ),
+)
 visited-walk net range caches (Makes access address seen hit ∷ more) walk = absurd walk
 
 pub visited-append : (net : Net) (caches : List Held) (first more : List Moment) →

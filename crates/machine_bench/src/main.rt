@@ -93,7 +93,7 @@ fn loop_machine(alloc: Global, profile: &Profile) -> Result<Machine> {
     let Ok(image) = read_image(alloc, &file) else {
         bail!("the loop's file isn't read");
     };
-    if clash_place(&image, profile).is_some() {
+    if let Some(_) = clash_place(&image, profile) {
         bail!("the loop lies in the stack");
     }
     let regs = Regs {

@@ -80,7 +80,7 @@ pub(crate) fn machine_under(
     fills: &[Fill],
 ) -> Result<Machine, Fail> {
     let image = image_of(alloc, words)?;
-    if clash_place(&image, profile).is_some() {
+    if let Some(_) = clash_place(&image, profile) {
         return Err("a clash".into());
     }
     if !are_fillable(&image, profile, fills) {

@@ -113,47 +113,47 @@ module _ (net : Net) (place : ℕ) (levels : List Level) (memory : ℕ) where
   made-passed [] (moment ∷ made) caches same behind zip = absurd zip
   made-passed (access ∷ accesses) made caches same behind zip =
       by (goes access) refl (λ rest next kept later. made-passed accesses rest next kept later) where
-    filtered : (b : Bool) → goes access ≡ b →
-        AllZip (IsMadeBy net place) (cond b (access ∷ filter goes accesses) (filter goes accesses)) made
-    filtered b is =
-        subst (λ (test : Bool). AllZip (IsMadeBy net place) (cond test (access ∷ filter goes accesses) (filter goes accesses)) made) is zip
+        filtered : (b : Bool) → goes access ≡ b →
+            AllZip (IsMadeBy net place) (cond b (access ∷ filter goes accesses) (filter goes accesses)) made
+        filtered b is =
+            subst (λ (test : Bool). AllZip (IsMadeBy net place) (cond test (access ∷ filter goes accesses) (filter goes accesses)) made) is zip
 
-    by : (b : Bool) → goes access ≡ b →
-        ((rest : List Moment) (next : Tallied) → levels_of next.held ≡ levels → next.memory ≡ memory →
-        AllZip (IsMadeBy net place) (filter goes accesses) rest → ArePassed net levels memory accesses rest next) →
-        ArePassed net levels memory (access ∷ accesses) made caches
-    by false is on =
-        let side : side_of access.kind ≡ None = no-side access.kind is in
-        let zip' : AllZip (IsMadeBy net place) (filter goes accesses) made = filtered false is in
-        let rest = on made caches same behind zip' in
-        let stay : passed (side_of access.kind) access.address caches ≡ caches =
-        ap (λ (s : Option Side). passed s access.address caches) side in
-        let nothing : visit_cost (side_of access.kind) access.address caches ≡ 0 =
-        ap (λ (s : Option Side). visit_cost s access.address caches) side in
-        let costs : access_costs accesses (passed (side_of access.kind) access.address caches) ≡ access_costs accesses caches =
-        ap (access_costs accesses) stay in
-        let cost = rest.cost in
-        record {
-          cost = omega (arith, nothing, costs, cost);
-          held = ap (λ (c : Tallied). (passed_all accesses c).held) stay ∙ rest.held;
-          kept = ap (λ (c : Tallied). levels_of (passed_all accesses c).held) stay ∙ rest.kept;
-          behind = ap (λ (c : Tallied). (passed_all accesses c).memory) stay ∙ rest.behind;
-        }
-    by true is on = numbered made (filtered true is) where
-      numbered : (made : List Moment) → AllZip (IsMadeBy net place) (access ∷ filter goes accesses) made →
-          ArePassed net levels memory (access ∷ accesses) made caches
-      numbered [] zip = absurd zip
-      numbered (Takes arc ∷ rest) zip = absurd (let m = zip.0.makes in cc)
-      numbered (Makes number address seen hit ∷ rest) zip =
-          let made_by = zip.0 in
-          let named : number ≡ made_by.number = let m = made_by.makes in cc in
-          let there : address ≡ access.address = let m = made_by.makes in cc in
-          let side : side_at net number ≡ side_of access.kind =
-          ap (side_at net) named ∙ ap side_by made_by.there ∙ ap side_of made_by.kind in
-          one-passed access accesses number address seen hit rest caches same behind side there
-          (on rest (passed (side_of access.kind) access.address caches)
-          (levels-passed (side_of access.kind) access.address caches ∙ same)
-          (memory-passed (side_of access.kind) access.address caches ∙ behind) zip.1)
+        by : (b : Bool) → goes access ≡ b →
+            ((rest : List Moment) (next : Tallied) → levels_of next.held ≡ levels → next.memory ≡ memory →
+            AllZip (IsMadeBy net place) (filter goes accesses) rest → ArePassed net levels memory accesses rest next) →
+            ArePassed net levels memory (access ∷ accesses) made caches
+        by false is on =
+            let side : side_of access.kind ≡ None = no-side access.kind is in
+            let zip' : AllZip (IsMadeBy net place) (filter goes accesses) made = filtered false is in
+            let rest = on made caches same behind zip' in
+            let stay : passed (side_of access.kind) access.address caches ≡ caches =
+            ap (λ (s : Option Side). passed s access.address caches) side in
+            let nothing : visit_cost (side_of access.kind) access.address caches ≡ 0 =
+            ap (λ (s : Option Side). visit_cost s access.address caches) side in
+            let costs : access_costs accesses (passed (side_of access.kind) access.address caches) ≡ access_costs accesses caches =
+            ap (access_costs accesses) stay in
+            let cost = rest.cost in
+            record {
+              cost = omega (arith, nothing, costs, cost);
+              held = ap (λ (c : Tallied). (passed_all accesses c).held) stay ∙ rest.held;
+              kept = ap (λ (c : Tallied). levels_of (passed_all accesses c).held) stay ∙ rest.kept;
+              behind = ap (λ (c : Tallied). (passed_all accesses c).memory) stay ∙ rest.behind;
+            }
+        by true is on = numbered made (filtered true is) where
+          numbered : (made : List Moment) → AllZip (IsMadeBy net place) (access ∷ filter goes accesses) made →
+              ArePassed net levels memory (access ∷ accesses) made caches
+          numbered [] zip = absurd zip
+          numbered (Takes arc ∷ rest) zip = absurd (let m = zip.0.makes in cc)
+          numbered (Makes number address seen hit ∷ rest) zip =
+              let made_by = zip.0 in
+              let named : number ≡ made_by.number = let m = made_by.makes in cc in
+              let there : address ≡ access.address = let m = made_by.makes in cc in
+              let side : side_at net number ≡ side_of access.kind =
+              ap (side_at net) named ∙ ap side_by made_by.there ∙ ap side_of made_by.kind in
+              one-passed access accesses number address seen hit rest caches same behind side there
+              (on rest (passed (side_of access.kind) access.address caches)
+              (levels-passed (side_of access.kind) access.address caches ∙ same)
+              (memory-passed (side_of access.kind) access.address caches ∙ behind) zip.1)
 
 -- ---- Units one after the other.
 along-costs : (net : Net) (levels : List Level) (memory from : ℕ) (units : List RunUnit) (moments : List Moment) (caches : Tallied) →
