@@ -1,0 +1,9 @@
+mod CertificateLines
+mod Decimal
+mod Fitting
+mod LeafLemmas
+mod Lists
+mod Prefixes
+mod Sheets
+mod Signs
+mod WeightLemmas
