@@ -81,19 +81,23 @@ some_leaf = record {
   one = λ e. absurd (cc);
 }
 
-leaf_line : Line
+abbrev leaf_line : Line
 leaf_line = Tree (End some_leaf)
+
+fits_leaf : FitsLine leaf_line
+unfolding some_leaf
+fits_leaf = (record { sfits = Prim.omega arith }, tt)
 
 trees : (left : ℕ) → Completes (Trees left)
 trees zero = record { more = Last ∷ []; fit = (tt, tt); leads = (Ended, refl, refl) }
 trees (suc left) =
     let c = trees left in
-    record { more = leaf_line ∷ c.more; fit = (?, c.fit); leads = (Trees left, ?, c.leads) }
+    record { more = leaf_line ∷ c.more; fit = (fits_leaf, c.fit); leads = (Trees left, refl, c.leads) }
 
 counts : (low : ℕ) → Completes (Counts low)
 counts low =
     let c = trees 0 in
-    record { more = leaf_line ∷ c.more; fit = (?, c.fit); leads = (Trees 0, ?, c.leads) }
+    record { more = leaf_line ∷ c.more; fit = (fits_leaf, c.fit); leads = (Trees 0, refl, c.leads) }
 
 completes : (state : State) → Completes state
 completes Begin =
