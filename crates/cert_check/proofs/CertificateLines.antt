@@ -77,6 +77,13 @@ counts_lawful low (count ∷ counts) nodes h =
     let more = counts_lawful (count.column + 1) counts nodes (subst (λ (s : State). Leads s (count_lines counts nodes) Ended) (sym t.2) h.2) in
     ((t.0, t.1, more.0), more.1)
 
+-- All lines of a certificate lead to the end only where its counts rise and its tree is whole.
+pub all_lawful : (bound reached : ℕ) (counts : List Count) (nodes : List Node) →
+    Leads Begin (all_lines bound reached counts nodes) Ended → Rises 0 counts × IsWhole nodes
+all_lawful bound reached counts nodes h =
+    let k = subst (λ (s : State). Leads s (Reached reached ∷ count_lines counts nodes) Ended) (sym (same_state Bounded h.0 h.1)) h.2 in
+    counts_lawful 0 counts nodes (subst (λ (s : State). Leads s (count_lines counts nodes) Ended) (sym (same_state (Counts 0) k.0 k.1)) k.2)
+
 -- The other way round.
 whole_nodes : (left : ℕ) (nodes : List Node) → are_trees left nodes ≡ true → Leads (Trees left) (tree_lines nodes) Ended
 whole_nodes zero [] h = (Ended, refl, refl)

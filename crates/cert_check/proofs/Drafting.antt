@@ -10,8 +10,10 @@ use Rattle.cert_check.specs.declared.line.Line.TheVariants.{Bound, Reached, Valu
 use Rattle.cert_check.specs.declared.order.State.{State}
 use Rattle.cert_check.specs.declared.order.State.TheVariants.{Begin, Bounded, Counts, Trees, Ended}
 use Rattle.cert_check.specs.Drafts.{with_line}
-use Rattle.cert_check.specs.Order.{next}
-use Rattle.cert_check.proofs.Sheets.{same_state, no_state}
+use Rattle.cert_check.specs.Order.{is_over, next}
+use Rattle.ipet_program.specs.Trees.{IsWhole}
+use Rattle.cert_check.proofs.CertificateLines.{Rises, all_lawful, all_lines}
+use Rattle.cert_check.proofs.Sheets.{Leads, same_state, no_state}
 
 -- The lines of a draft in a state.
 abbrev pub lines_by : State → Draft → List Line
@@ -104,3 +106,21 @@ adds (Trees zero) draft Last to early e =
     })
 adds (Trees (suc left)) draft Last to early e = absurd (no_state to e)
 adds Ended draft line to early e = absurd (no_state to e)
+
+-- At the end a draft has all lines of a certificate.
+pub ended_lines : (state : State) (draft : Draft) → is_over state ≡ true →
+    lines_by state draft ≡ all_lines draft.bound draft.reached draft.counts draft.tree
+ended_lines Begin draft e = absurd (cc)
+ended_lines Bounded draft e = absurd (cc)
+ended_lines (Counts low) draft e = absurd (cc)
+ended_lines (Trees left) draft e = absurd (cc)
+ended_lines Ended draft e = refl
+
+-- It is lawful.
+pub ended_lawful : (state : State) (draft : Draft) → is_over state ≡ true → Leads Begin (lines_by state draft) state →
+    Rises 0 draft.counts × IsWhole draft.tree
+ended_lawful Begin draft e h = absurd (cc)
+ended_lawful Bounded draft e h = absurd (cc)
+ended_lawful (Counts low) draft e h = absurd (cc)
+ended_lawful (Trees left) draft e h = absurd (cc)
+ended_lawful Ended draft e h = all_lawful draft.bound draft.reached draft.counts draft.tree h

@@ -1,5 +1,5 @@
 -- Small facts about lists, options and pairs.
-use Rattle.std.proofs.Common.{◌≡◌, ℕ, List, [], ◌∷◌, ◌++◌, Option, Some, None, sym, ap, ◌∙◌, append_assoc}
+use Rattle.std.proofs.Common.{◌≡◌, ℕ, List, [], ◌∷◌, ◌++◌, length, Option, Some, None, refl, sym, ap, ◌∙◌, append_assoc, arith}
 use Rattle.std.specs.Prelude.{flat_map}
 use Rattle.std.proofs.lemmas.Grind.{flat_map-append}
 use Rattle.std.proofs.lemmas.List.{append-nil}
@@ -36,3 +36,7 @@ tail_same e = cc
 
 pub pair_some : {S T : Type 0} (a b : S) (x y : T) → a ≡ b → x ≡ y → ◌≡◌ {A = Option (S × T)} (Some (a, x)) (Some (b, y))
 pair_some a b x y p q = cc
+
+pub no_bytes : (bytes : List ℕ) → length bytes ≡ 0 → bytes ≡ []
+no_bytes [] e = refl
+no_bytes (byte ∷ bytes) e = absurd (omega arith)

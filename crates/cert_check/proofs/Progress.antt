@@ -14,7 +14,7 @@ use Rattle.cert_check.specs.declared.order.State.TheVariants.{Begin, Bounded, Co
 use Rattle.cert_check.specs.Faults.{Begins, IsFirstBad}
 use Rattle.cert_check.specs.Lines.{FitsLine, Fits, TakesLine, certificate_lines, line_text, text_of}
 use Rattle.cert_check.specs.Order.{is_over, left_in, next}
-use Rattle.cert_check.specs.Texts.{certificate_text}
+use Rattle.cert_check.specs.Texts.{certificate_text, leaf_head, weight_text}
 use Rattle.cert_check.proofs.CertificateLines.{begins_of, certificate_sheet, certificate_text-lines, goes_on}
 use Rattle.cert_check.proofs.Lists.{flat_push}
 use Rattle.cert_check.proofs.Sheets.{IsSheet, Leads, few_left, fit_more, fit_there, leads_back, leads_more, leads_same, no_state, over_is, still}
@@ -54,7 +54,8 @@ line_some (Bound bound) = omega (arith, length-append (codes "bound ") (decimal 
 line_some (Reached reached) = omega (arith, length-append (codes "reached ") (decimal reached ++ codes "\n"))
 line_some (Value count) = omega arith
 line_some (Tree (Split column at)) = omega arith
-line_some (Tree (End leaf)) = omega arith
+line_some (Tree (End leaf)) =
+    omega (arith, length-append (leaf_head leaf ++ flat_map weight_text leaf.weights) (codes "\n"))
 line_some Last = omega arith
 
 -- A line more.
