@@ -129,19 +129,23 @@ pairs_rise low (count ∷ counts) from taken pairs = (
   from 0 count (omega arith),
   taken 0 count (omega arith),
   pairs_rise (count.column + 1) counts (λ k d lt. omega (arith, pairs 0 (suc k) d (omega arith) (omega arith)))
-  (λ k d lt. taken (suc k) d (omega arith)) (λ i j d lt le. pairs (suc i) (suc j) d (omega arith) (omega arith)),
+      (λ k d lt. taken (suc k) d (omega arith)) (λ i j d lt le. pairs (suc i) (suc j) d (omega arith) (omega arith)),
 )
 
 -- The lines of a certificate are a sheet.
 pub certificate_sheet : (certificate : Certificate) → Fits certificate → IsSheet (certificate_lines certificate)
 certificate_sheet certificate fits = record {
   fit = fits;
-  order =
-      (Bounded, refl, (
-        Counts 0, refl,
-        lawful_counts 0 certificate.counts certificate.tree
-        (pairs_rise 0 certificate.counts (λ k d lt. omega arith) certificate.taken certificate.rising) certificate.whole,
-      ));
+  order = (
+    Bounded,
+    refl,
+    (
+      Counts 0,
+      refl,
+      lawful_counts 0 certificate.counts certificate.tree
+          (pairs_rise 0 certificate.counts (λ k d lt. omega arith) certificate.taken certificate.rising) certificate.whole,
+    ),
+  );
 }
 
 -- A sheet is the lines of a certificate.

@@ -51,9 +51,9 @@ goes_on bytes n stop rest place s le digit =
     elim (cases_lt place (length (decimal n))) [
       | inl lt ↦ lt
       | inr ge ↦
-        let e : place ≡ length (decimal n) = omega arith in
-        let here : get_or bytes place 0 ≡ stop = rw (s.is, e) (get_or-append_seam (decimal n) stop rest 0) in
-        absurd (s.ends (subst IsDigit here digit))
+          let e : place ≡ length (decimal n) = omega arith in
+          let here : get_or bytes place 0 ≡ stop = rw (s.is, e) (get_or-append_seam (decimal n) stop rest 0) in
+          absurd (s.ends (subst IsDigit here digit))
     ]
 
 -- Where it is none, the number ends.
@@ -125,7 +125,7 @@ no_overflow bytes n stop rest place number fits s lt small g =
     let digit = digit_in bytes n stop rest place fits s lt in
     let one = digit_value_digit (get_or bytes place 0) digit in
     let front : take (place + 1) bytes ≡ take (place + 1) (decimal n) =
-        rw s.is (take-append-le (place + 1) (decimal n) (stop ∷ rest) (omega arith)) in
+    rw s.is (take-append-le (place + 1) (decimal n) (stop ∷ rest) (omega arith)) in
     let below = digits_value-take-le 10 (decimal n) (place + 1) (omega arith) in
     let value = (decimal_is_IsNumeral_wide n (small_enough n fits)).1 in
     let all : digits_value 10 (take (place + 1) bytes) ≤ n = rw front (omega (arith, below, value)) in
@@ -137,14 +137,14 @@ pub lead : (bytes : List ℕ) (n stop : ℕ) (rest : List ℕ) (place number : �
 lead bytes n stop rest place zero small s lt g pos =
     let front : decimal 0 ≡ take place bytes = g.some pos in
     let first : get_or bytes 0 0 ≡ 48 =
-        sym (get_or-take place bytes 0 0 pos) ∙ ap (λ (t : List ℕ). get_or t 0 0) (sym front ∙ decimal_digit 0 (omega arith)) in
+    sym (get_or-take place bytes 0 0 pos) ∙ ap (λ (t : List ℕ). get_or t 0 0) (sym front ∙ decimal_digit 0 (omega arith)) in
     let same : get_or bytes 0 0 ≡ get_or (decimal n) 0 0 =
-        rw s.is (get_or_append_left (decimal n) (stop ∷ rest) 0 0 (omega arith)) in
+    rw s.is (get_or_append_left (decimal n) (stop ∷ rest) 0 0 (omega arith)) in
     elim (cases_lt 0 n) [
       | inl some ↦ absurd (omega (arith, first_digit n some small, same, first))
       | inr none ↦
-        let e : n ≡ 0 = omega arith in
-        let one : length (decimal n) ≡ 1 = rw (e, decimal_digit 0 (omega arith)) refl in
-        absurd (omega arith)
+          let e : n ≡ 0 = omega arith in
+          let one : length (decimal n) ≡ 1 = rw (e, decimal_digit 0 (omega arith)) refl in
+          absurd (omega arith)
     ]
 lead bytes n stop rest place (suc number) small s lt g pos = omega arith

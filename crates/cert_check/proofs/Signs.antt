@@ -19,14 +19,13 @@ pub record IsNegative (digits : List ℕ) (z : ℤ) (stop : ℕ) (rest : List �
   pub is : z ≡ negsuc n
   pub stands : Stands digits (n + 1) stop rest
 
-
 -- A number behind a `-` is below 0: no digit is a `-`.
 pub negative : (bytes digits : List ℕ) (z : ℤ) (stop : ℕ) (rest : List ℕ) → FitsSigned w128 z → IsStop stop →
     bytes ≡ 45 ∷ digits → bytes ≡ signed_decimal z ++ stop ∷ rest → IsNegative digits z stop rest
 negative bytes digits (pos n) stop rest fits ends e is =
     let small : n < 2 ^ 128 = omega (arith, half n fits) in
     let first : IsDigit (get_or bytes 0 0) =
-        digit_in bytes n stop rest 0 small (record { ends = ends; is = is }) (some_digit n small) in
+    digit_in bytes n stop rest 0 small (record { ends = ends; is = is }) (some_digit n small) in
     let minus : IsDigit 45 = subst (λ (b : List ℕ). IsDigit (get_or b 0 0)) e first in
     absurd (omega (arith, minus))
 negative bytes digits (negsuc n) stop rest fits ends e is =

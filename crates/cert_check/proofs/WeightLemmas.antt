@@ -51,8 +51,8 @@ under_push weights weight low h le k d lt =
     elim (cases_lt k (length weights)) [
       | inl l ↦ rw (get_or-append weights (weight ∷ []) d k l) (omega (arith, h k d l, le))
       | inr r ↦
-        let e : k ≡ length weights = omega (arith, lt, r, length-append weights (weight ∷ [])) in
-        rw (e, get_or-append_seam weights weight [] d) (omega arith)
+          let e : k ≡ length weights = omega (arith, lt, r, length-append weights (weight ∷ [])) in
+          rw (e, get_or-append_seam weights weight [] d) (omega arith)
     ]
 
 -- A row of the whole line stands above those in front of it.
@@ -172,7 +172,7 @@ one_more bytes weights low rest h other weight behind fits le some here only = r
   least = λ bound under.
       let long : length weights < length (weights ++ weight ∷ []) = omega (arith, length-append weights (weight ∷ [])) in
       let last : weight.row < bound =
-          subst (λ (w : Weight). w.row < bound) (get_or-append_seam weights weight [] weight) (under (length weights) weight long) in
+      subst (λ (w : Weight). w.row < bound) (get_or-append_seam weights weight [] weight) (under (length weights) weight long) in
       omega arith;
   ahead = λ all after are e.
       let n = next_of bytes weights low rest h other all after are e in

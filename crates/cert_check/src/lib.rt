@@ -9,12 +9,13 @@ mod lines;
 mod numbers;
 mod order;
 mod reading;
+#[cfg(test)]
+mod tests;
 mod weights;
 mod words;
 mod writing;
 
 pub use fault::CertFault;
 pub use line::Line;
-pub use order::State;
 pub use reading::read_certificate;
 pub use writing::print_certificate;

@@ -70,8 +70,7 @@ fn negative_of(size: u128) -> Option<i128>
     ensures some { IfSome result (λ z. (n : ℕ) × (size ≡ n + 1) × (z ≡ negsuc n)) }
     ensures again { (n : ℕ) → FitsSigned w128 (negsuc n) → size ≡ n + 1 → result ≡ Some (negsuc n) }
 {
-    let below = i128::try_from(size.checked_sub(1)?).ok()?;
-    Some(-1 - below)
+    Some(-1 - i128::try_from(size.checked_sub(1)?).ok()?)
 }
 
 /// The number below 0 whose digits stand at the front of bytes, and the bytes from the one that ends it on.

@@ -51,11 +51,7 @@ fn after_node(left: u64, node: &Node) -> Option<State>
 fn after_last(left: u64) -> Option<State>
     ensures { result ≡ past_last left }
 {
-    if left == 0 {
-        Some(State::Ended)
-    } else {
-        None
-    }
+    if left == 0 { Some(State::Ended) } else { None }
 }
 
 /// The state after a line, if the line may come.

@@ -33,7 +33,7 @@ loop-place-preserved c =
     record {
       small = omega (arith, some);
       grows = rw some.1 (grows c.args.bytes.now c.loop-place.place c.loop-place.number c.loop-place-test.true inv.grows
-      c.if-not-is_digit.ensures.yes some.0 (omega (arith, some)));
+          c.if-not-is_digit.ensures.yes some.0 (omega (arith, some)));
       within = λ n stop rest small s.
           let lt = goes_on c.args.bytes.now n stop rest c.loop-place.place s (inv.within n stop rest small s) c.if-not-is_digit.ensures.yes in
           omega arith;

@@ -27,8 +27,8 @@ returns-in_default-clause-refused c =
 pub returns-in_default-clause-again : goal.returns-in_default-clause-again
 returns-in_default-clause-again c certificate fits e =
     let n = next_line (lines_by c.loop-alloc.state c.loop-alloc.draft) c.loop-alloc.rest.now c.loop-alloc.state (certificate_lines certificate)
-        c.loop-alloc.invariant.read.leads (search (rules, c.is_ended.ensures, c.loop-alloc-test.true)) (certificate_sheet certificate fits)
-        (c.loop-alloc.invariant.ahead certificate fits e) in
+    c.loop-alloc.invariant.read.leads (search (rules, c.is_ended.ensures, c.loop-alloc-test.true)) (certificate_sheet certificate fits)
+    (c.loop-alloc.invariant.ahead certificate fits e) in
     none_some _ (rw (c.in_default.is) at (c.in_ok-line.ensures.again n.line (text_of n.more) n.takes))
 
 pub returns-in_default-next-clause-refused : goal.returns-in_default-next-clause-refused
@@ -40,8 +40,8 @@ returns-in_default-next-clause-refused c =
 pub returns-in_default-next-clause-again : goal.returns-in_default-next-clause-again
 returns-in_default-next-clause-again c certificate fits e =
     let n = next_line (lines_by c.loop-alloc.state c.loop-alloc.draft) c.loop-alloc.rest.now c.loop-alloc.state (certificate_lines certificate)
-        c.loop-alloc.invariant.read.leads (search (rules, c.is_ended.ensures, c.loop-alloc-test.true)) (certificate_sheet certificate fits)
-        (c.loop-alloc.invariant.ahead certificate fits e) in
+    c.loop-alloc.invariant.read.leads (search (rules, c.is_ended.ensures, c.loop-alloc-test.true)) (certificate_sheet certificate fits)
+    (c.loop-alloc.invariant.ahead certificate fits e) in
     let same = first_same _ _ _ _ (rw (c.in-Some.is) at (c.in_ok-line.ensures.again n.line (text_of n.more) n.takes)) in
     stuck (lines_by c.loop-alloc.state c.loop-alloc.draft) c.loop-alloc.state (certificate_lines certificate) c.loop-alloc.invariant.read.leads
     (certificate_sheet certificate fits) n.line n.more n.parts (ap (next c.loop-alloc.state) (sym same) ∙ sym c.in_default-next.ensures)
@@ -75,8 +75,8 @@ returns-then-not-is_empty-clause-refused c =
 pub returns-then-not-is_empty-clause-again : goal.returns-then-not-is_empty-clause-again
 returns-then-not-is_empty-clause-again c certificate fits e =
     let n = no_more (lines_by c.loop-alloc.state c.loop-alloc.draft) c.loop-alloc.rest.now c.loop-alloc.state (certificate_lines certificate)
-        c.loop-alloc.invariant.read.leads (search (rules, c.is_ended.ensures, c.loop-alloc-test.false)) (certificate_sheet certificate fits)
-        (c.loop-alloc.invariant.ahead certificate fits e) in
+    c.loop-alloc.invariant.read.leads (search (rules, c.is_ended.ensures, c.loop-alloc-test.false)) (certificate_sheet certificate fits)
+    (c.loop-alloc.invariant.ahead certificate fits e) in
     grind (arith, n.1, c.is_empty.ensures, c.if-not-is_empty.true)
 
 pub invariant_of-result : goal.invariant_of-result
@@ -101,8 +101,8 @@ returns-clause-text c =
 pub returns-clause-again : goal.returns-clause-again
 returns-clause-again c certificate fits e =
     let n = no_more (lines_by c.loop-alloc.state c.loop-alloc.draft) c.loop-alloc.rest.now c.loop-alloc.state (certificate_lines certificate)
-        c.loop-alloc.invariant.read.leads (search (rules, c.is_ended.ensures, c.loop-alloc-test.false)) (certificate_sheet certificate fits)
-        (c.loop-alloc.invariant.ahead certificate fits e) in
+    c.loop-alloc.invariant.read.leads (search (rules, c.is_ended.ensures, c.loop-alloc-test.false)) (certificate_sheet certificate fits)
+    (c.loop-alloc.invariant.ahead certificate fits e) in
     let all = ended_lines c.loop-alloc.state c.loop-alloc.draft (search (rules, c.is_ended.ensures, c.loop-alloc-test.false)) in
     let p = parts_same c.loop-alloc.draft.bound c.loop-alloc.draft.reached c.loop-alloc.draft.counts c.loop-alloc.draft.tree certificate (sym all ∙ n.0) in
     record { bound = p.bound_same; reached = p.reached_same; counts = p.counted_same; tree = p.tree_same }
