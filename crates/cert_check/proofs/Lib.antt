@@ -1,0 +1,11 @@
+mod CertificateLines
+mod Decimal
+mod Drafting
+mod Fitting
+mod LeafLemmas
+mod Lists
+mod Prefixes
+mod Progress
+mod Sheets
+mod Signs
+mod WeightLemmas
