@@ -39,3 +39,6 @@ pub mod PlaceFlow
 pub mod TurnsAt
 pub mod PlaceCaps
 pub mod Caps
+pub mod ArcRows
+pub mod RoundFrom
+pub mod StageLists

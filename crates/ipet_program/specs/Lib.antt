@@ -3,6 +3,8 @@ pub mod Costs
 pub mod Sums
 pub mod Scopes
 pub mod Rows
+pub mod Stages
+pub mod StageRows
 pub mod Programs
 pub mod Counts
 pub mod Trees
@@ -11,5 +13,6 @@ pub mod Adding
 pub mod Shown
 pub mod Certificates
 pub mod Tables
+pub mod StageTables
 pub mod Faults
 pub mod Forward

@@ -5,7 +5,7 @@ use Rattle.flow_net.specs.Scopes.{ChainsEnd, IsWithin, holds_of}
 use Rattle.flow_net.specs.declared.net.LoopInst.{LoopInst}
 use Rattle.flow_net.specs.declared.net.Net.{Net}
 use Rattle.flow_net.specs.declared.net.NetArc.{NetArc}
-use Rattle.ipet_program.specs.Costs.{price_limit}
+use Rattle.ipet_program.specs.Costs.{full_limit, price_limit}
 use Rattle.ipet_program.specs.Programs.{arc_cap, arc_value, crude_limit, crude_of}
 use Rattle.ipet_program.specs.Rows.{loop_factor, one_if, place_factor, rows_of, term_of, terms_of}
 use Rattle.ipet_program.specs.Scopes.{bound_of, turns_at}
@@ -16,6 +16,10 @@ use Rattle.ipet_program.specs.declared.program.Row.{Row}
 -- The cycles of a unit: at least one, as each class takes one.
 abbrev pub IsPrice : ℕ → Type 0
 IsPrice price = (1 ≤ price) × (price ≤ price_limit)
+
+-- The most cycles of a unit, through all stages.
+abbrev pub IsFullPrice : ℕ → Type 0
+IsFullPrice price = (1 ≤ price) × (price ≤ full_limit)
 
 -- A number is kept with 128 bits: a greater one as the greatest of them.
 abbrev pub in_128 : ℕ → ℕ

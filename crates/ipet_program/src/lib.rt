@@ -2,6 +2,7 @@
 #![tactic(auto)]
 
 mod adding;
+mod arc_rows;
 mod arcs;
 mod assemble;
 mod certificate;
@@ -22,6 +23,7 @@ mod program;
 mod rows;
 mod shows;
 mod split;
+mod stages;
 #[cfg(test)]
 mod standing;
 #[cfg(test)]

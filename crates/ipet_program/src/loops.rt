@@ -16,7 +16,7 @@ use std::alloc::{AllocError, Global};
 
 /// The number of the loop instance that has the place as its header; 0 where none has, as at 0. In a
 /// nested net it is the header's innermost scope.
-fn loop_at(net: &Net, place: u32) -> u32
+pub fn loop_at(net: &Net, place: u32) -> u32
     requires nested { IsNested net.now }
     requires place { IsNumberOrZero net.now.places place }
     ensures header { IsLoopAt net.now place result }
@@ -35,7 +35,7 @@ fn loop_at(net: &Net, place: u32) -> u32
 }
 
 /// Whether a scope doesn't hold a place. None holds 0.
-fn is_outside(net: &Net, scope: u32, place: u32) -> bool
+pub fn is_outside(net: &Net, scope: u32, place: u32) -> bool
     requires scopes { HasScopes net.now }
     requires place { IsNumberOrZero net.now.places place }
     ensures outside { result ≡ not (holds_of net.now scope place) }

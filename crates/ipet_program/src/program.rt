@@ -20,20 +20,22 @@ pub struct Row {
     pub right: i64,
 }
 
-/// A stage of an access behind the first cache of its chain, and what its rows say.
+/// A further stage of an access: the caches of its chain but the first one, and memory. And what its rows say.
 #[derive(Debug, Drop)]
 pub struct Stage {
     /// The number of the access.
     pub access: u32,
     /// The place of the access.
     pub place: u32,
+    /// The number of the cache that the access leaves behind when it goes on to the stage, from 1 along its chain.
+    pub level: u32,
     /// The column of the stage before it; 0 where that is the first one, which the arcs into the place count.
     pub before: u32,
     /// The latency of what the stage visits, in cycles.
     pub latency: u64,
-    /// Whether the access never comes there.
+    /// Whether the access never comes there: it never arrives at the cache before, or always finds its block there.
     pub never: bool,
-    /// The scopes of its first misses, the outermost first.
+    /// The scopes in each stay of which the access comes there at most once, the outermost first.
     pub firsts: List<u32>,
 }
 
@@ -47,6 +49,6 @@ pub struct Program {
     pub value: List<i64>,
     /// The range of each column is 0 to its cap.
     pub caps: List<u64>,
-    /// The further stages, none before caches are analysed.
+    /// The further stages, in the order of their columns, which follow those of the arcs.
     pub stages: List<Stage>,
 }
