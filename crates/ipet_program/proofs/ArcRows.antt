@@ -1,22 +1,24 @@
 -- Rows with the picked arcs taken off get a further arc.
-use Rattle.std.proofs.Common.{◌≡◌, ℕ, zero, suc, ◌+◌, ◌-◌, ◌≤◌, ◌==◌, Bool, true, false, pos, negsuc, ◌-ℤ◌, List, [], ◌++◌, length, get_or, Option, Some, None, refl, sym, ◌∙◌, ap, subst, arith}
+use Rattle.std.proofs.Common.{◌≡◌, ℕ, zero, suc, ◌+◌, ◌-◌, ◌≤◌, ◌==◌, Bool, true, false, pos, negsuc, ◌-ℤ◌, List, [], ◌∷◌, ◌++◌, length, get_or, Option, Some, None, refl, sym, ◌∙◌, ap, subst, arith}
 use Rattle.std.specs.Prelude.{if◌then◌else◌}
-use Rattle.std.proofs.lemmas.List.{append-nil}
-use Rattle.flow_net.specs.Numbers.{item_at}
+use Rattle.std.proofs.lemmas.Bool.Decides.{Decides-eqb}
+use Rattle.std.proofs.lemmas.List.{append-nil, append_assoc}
+use Rattle.flow_net.specs.Numbers.{item_at, IsNumberOf}
 use Rattle.flow_net.specs.Scopes.{holds_of}
 use Rattle.flow_net.specs.declared.net.LoopInst.{LoopInst}
 use Rattle.flow_net.specs.declared.net.Net.{Net}
 use Rattle.flow_net.specs.declared.net.NetArc.{NetArc}
 use Rattle.flow_net.proofs.Numbers.{item_at-there}
 use Rattle.ipet_program.specs.Rows.{comes_to, is_entering, one_if, term_of, terms_of}
-use Rattle.ipet_program.specs.StageRows.{enters_by, enters_loop}
+use Rattle.ipet_program.specs.StageRows.{at_most_arcs, chain_row, enters_by, enters_loop, first_row}
 use Rattle.ipet_program.specs.StageTables.{IsEnteredBy, entering_row, into_row, less_arcs}
 use Rattle.ipet_program.specs.Sums.{numbered}
 use Rattle.ipet_program.specs.Tables.{grown, with_term}
 use Rattle.ipet_program.specs.declared.program.Row.{Row}
 use Rattle.ipet_program.specs.declared.program.Term.{Term}
 use Rattle.ipet_program.proofs.Growth.{terms_of-more}
-use Rattle.ipet_program.proofs.Numbered.{numbered-same}
+use Rattle.ipet_program.proofs.Numbered.{numbered-get, numbered-same}
+use Rattle.ipet_program.proofs.Told.{not_told}
 
 abbrev row_of_terms : List Term → Row
 row_of_terms terms = record { equal = false; terms = terms; right = pos 0 }
@@ -66,3 +68,48 @@ entering_rows-next net index arc number is there =
     (length net.loops)
     (λ scope low high. less_arcs-next (enters_by net scope) index (number == scope)
     (entered-by net arc number (index + 1) is there scope low high))
+
+-- ---- The rows with a further column.
+row-read : (row : ℕ → Row) (rows : List Row) (number : ℕ) (d : Row) → 1 ≤ number → number ≤ length rows →
+    rows ≡ numbered row (length rows) → get_or rows (number - 1) d ≡ row number
+row-read row rows number d low high known =
+    subst (λ (made : List Row). get_or made (number - 1) d ≡ row number) (sym known)
+    (numbered-get row (length rows) number d low high)
+
+-- That of a chain whose stage before it is the first one.
+pub chain-first : (arcs : List NetArc) (into : List Row) (place before column : ℕ) (d : Row) → IsNumberOf into place → before ≡ 0 →
+    into ≡ numbered (into_row arcs (length arcs)) (length into) →
+    with_term (get_or into (place - 1) d) column (pos 1) ≡ chain_row arcs place before column
+chain-first arcs into place before column d number first known =
+    ap (λ (row : Row). with_term row column (pos 1)) (row-read (into_row arcs (length arcs)) into place d number.from_one number.within known)
+    ∙ ap (λ (b : ℕ). chain_row arcs place b column) (sym first)
+
+-- Those of first misses in a loop instance and in the run.
+pub first-loop : (net : Net) (entering : List Row) (scope column : ℕ) (d : Row) → 1 ≤ scope → scope ≤ length entering →
+    entering ≡ numbered (entering_row net (length net.arcs)) (length entering) →
+    with_term (get_or entering (scope - 1) d) column (pos 1) ≡ first_row net column scope
+first-loop net entering scope column d low high known =
+    ap (λ (row : Row). with_term row column (pos 1)) (row-read (entering_row net (length net.arcs)) entering scope d low high known)
+
+run_terms : (n : ℕ) → terms_of (λ arc. pos 0 -ℤ one_if (arc == 1)) (suc n) ≡ record { column = 1; factor = negsuc 0 } ∷ []
+run_terms zero = refl
+run_terms (suc n) =
+    ap (λ (b : Bool). terms_of (λ arc. pos 0 -ℤ one_if (arc == 1)) (suc n) ++ term_of (suc (suc n)) (pos 0 -ℤ one_if b))
+    (not_told (suc (suc n) == 1) (λ e. omega (arith, (Decides-eqb (suc (suc n)) 1).0 e)))
+    ∙ append-nil (terms_of (λ arc. pos 0 -ℤ one_if (arc == 1)) (suc n)) ∙ run_terms n
+
+run_by : (arcs column : ℕ) → 1 ≤ arcs → chain_row [] 0 1 column ≡ at_most_arcs arcs (λ arc. arc == 1) column
+run_by zero column some = absurd (omega arith)
+run_by (suc n) column some =
+    ap (λ (terms : List Term). row_of_terms (terms ++ term_of column (pos 1))) (sym (run_terms n))
+
+pub first-run : (net : Net) (column scope : ℕ) → 1 ≤ length net.arcs → scope ≡ 0 → chain_row [] 0 1 column ≡ first_row net column scope
+first-run net column scope some run =
+    run_by (length net.arcs) column some ∙ ap (first_row net column) (sym run)
+
+-- The rows of a stage stand behind those before it: that of its chain, and the other two kinds.
+pub three-kinds : (before chained zeroed after zeros firsts : List Row) (row : Row) → chained ≡ before ++ row ∷ [] →
+    zeroed ≡ chained ++ zeros → after ≡ zeroed ++ firsts → after ≡ before ++ row ∷ (zeros ++ firsts)
+three-kinds before chained zeroed after zeros firsts row first second third =
+    third ∙ ap (λ (xs : List Row). xs ++ firsts) (second ∙ ap (λ (xs : List Row). xs ++ zeros) first)
+    ∙ append_assoc (before ++ row ∷ []) zeros firsts ∙ append_assoc before (row ∷ []) (zeros ++ firsts)

@@ -23,10 +23,10 @@ small-from (pos n) high low = above n (omega (arith, ints, high))
 small-from (negsuc n) high low = below n (omega (arith, ints, low))
 
 -- A term of the columns 1 to a number.
-abbrev IsTerm : (columns : ℕ) → Term → Type 0
+abbrev pub IsTerm : (columns : ℕ) → Term → Type 0
 IsTerm columns term = (1 ≤ term.column) × (term.column ≤ columns) × IsSmall term.factor
 
-small-term : (columns column : ℕ) (factor : ℤ) → 1 ≤ column → column ≤ columns → IsSmall factor →
+pub small-term : (columns column : ℕ) (factor : ℤ) → 1 ≤ column → column ≤ columns → IsSmall factor →
     All (IsTerm columns) (term_of column factor)
 small-term columns column (pos zero) low high small = All-nil (IsTerm columns)
 small-term columns column (pos (suc n)) low high small =
@@ -36,7 +36,7 @@ small-term columns column (negsuc n) low high small =
     All-cons (IsTerm columns) (record { column = column; factor = negsuc n }) [] (low, high, small)
     (All-nil (IsTerm columns))
 
-small-terms : (columns : ℕ) (factor : ℕ → ℤ) (n : ℕ) → n ≤ columns →
+pub small-terms : (columns : ℕ) (factor : ℕ → ℤ) (n : ℕ) → n ≤ columns →
     ((column : ℕ) → IsSmall (factor column)) → All (IsTerm columns) (terms_of factor n)
 small-terms columns factor zero high small = All-nil (IsTerm columns)
 small-terms columns factor (suc n) high small =
@@ -44,12 +44,12 @@ small-terms columns factor (suc n) high small =
     (small-terms columns factor n (omega arith) small)
     (small-term columns (suc n) (factor (suc n)) (omega arith) high (small (suc n)))
 
-one-term : (column : ℕ) (factor : ℤ) → length (term_of column factor) ≤ 1
+pub one-term : (column : ℕ) (factor : ℤ) → length (term_of column factor) ≤ 1
 one-term column (pos zero) = omega arith
 one-term column (pos (suc n)) = omega arith
 one-term column (negsuc n) = omega arith
 
-few-terms : (factor : ℕ → ℤ) (n : ℕ) → length (terms_of factor n) ≤ n
+pub few-terms : (factor : ℕ → ℤ) (n : ℕ) → length (terms_of factor n) ≤ n
 few-terms factor zero = omega arith
 few-terms factor (suc n) =
     omega (
@@ -99,7 +99,7 @@ small-loop_row arcs held (Some inst) few bounds =
     (λ column. small-loop inst.bound (comes_to inst.header (item_at column arcs))
     (is_entering held inst.header (item_at column arcs)) (bounds inst refl))
 
-small-rows : (net : Net) → length net.arcs ≤ 2 ^ 28 →
+pub small-rows : (net : Net) → length net.arcs ≤ 2 ^ 28 →
     All (λ (inst : LoopInst). inst.bound < 2 ^ 32) net.loops → All (IsSmallRow (length net.arcs)) (rows_of net)
 small-rows net few bounds =
     let small : Row → Type 0 = IsSmallRow (length net.arcs) in

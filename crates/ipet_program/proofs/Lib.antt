@@ -42,3 +42,4 @@ pub mod Caps
 pub mod ArcRows
 pub mod RoundFrom
 pub mod StageLists
+pub mod StagesCheckable

@@ -1,5 +1,5 @@
 -- The tables from which the rows of further stages are built.
-use Rattle.std.specs.Prelude.{◌≡◌, ℕ, ◌≤◌, ◌==◌, Bool, false, pos, ◌-ℤ◌, List, length, All, Some}
+use Rattle.std.specs.Prelude.{◌≡◌, ℕ, suc, ◌+◌, ◌≤◌, ◌==◌, Bool, false, pos, ◌-ℤ◌, List, ◌++◌, length, map, All, Some}
 use Rattle.cache_config.specs.Limits.{most_cycles}
 use Rattle.flow_net.specs.Numbers.{item_at, IsNumberOf, IsNumberOrZero}
 use Rattle.flow_net.specs.Scopes.{holds_of}
@@ -7,8 +7,10 @@ use Rattle.flow_net.specs.declared.net.LoopInst.{LoopInst}
 use Rattle.flow_net.specs.declared.net.Net.{Net}
 use Rattle.flow_net.specs.declared.net.NetArc.{NetArc}
 use Rattle.ipet_program.specs.Rows.{comes_to, is_entering, one_if, terms_of}
-use Rattle.ipet_program.specs.StageRows.{enters_by}
+use Rattle.ipet_program.specs.Scopes.{turns_at}
+use Rattle.ipet_program.specs.StageRows.{enters_by, stage_rows}
 use Rattle.ipet_program.specs.Sums.{numbered}
+use Rattle.ipet_program.specs.declared.program.Program.{Program}
 use Rattle.ipet_program.specs.declared.program.Row.{Row}
 use Rattle.ipet_program.specs.declared.program.Stage.{Stage}
 
@@ -41,3 +43,11 @@ pub record IsStageOf (net : Net) (stage : Stage) : Type 0 where
   pub place : IsNumberOf net.places stage.place
   pub firsts : All (IsNumberOrZero net.loops) stage.firsts
   pub latency : stage.latency ≤ most_cycles
+
+-- A program with further stages behind the plain part, which has the arcs as its columns.
+pub record IsStaged (net : Net) (plain : Program) (further : List Stage) (program : Program) : Type 0 where
+  pub stages : program.stages ≡ further
+  pub columns : program.columns ≡ length net.arcs + length further
+  pub rows : program.rows ≡ plain.rows ++ stage_rows net (suc (length net.arcs)) further
+  pub value : program.value ≡ plain.value ++ map (λ (stage : Stage). pos stage.latency) further
+  pub caps : program.caps ≡ plain.caps ++ map (λ (stage : Stage). turns_at net stage.place) further

@@ -43,7 +43,7 @@ pub fn values_of(alloc: Global, net: &Net, prices: &[u64]) -> Result<List<i64>, 
 }
 
 /// How often an arc from a place is taken at most; one from 0 comes once.
-fn cap_of(net: &Net, turns: &[u128], from: u32) -> u64
+pub fn cap_of(net: &Net, turns: &[u128], from: u32) -> u64
     requires from { IsNumberOrZero net.now.places from }
     requires scopes { HasScopes net.now }
     requires turns { AreTurns net.now.loops turns.now }

@@ -1,17 +1,19 @@
 //! From a net to its program.
 
-ghost use Rattle.std.specs.Prelude.{◌≡◌, ◌≤◌, ◌<◌, ◌^◌, All, IfErr, IfOk, length};
+ghost use Rattle.std.specs.Prelude.{◌≡◌, ◌*◌, ◌≤◌, ◌<◌, ◌^◌, All, IfErr, IfOk, length};
 ghost use Rattle.flow_net.specs.Nested.{IsNested};
 ghost use Rattle.ipet_program.specs.Faults.{TellsTooLarge};
-ghost use Rattle.ipet_program.specs.Programs.{FitsImage, HasRows, IsCheckable, IsProgramOf, place_price};
+ghost use Rattle.ipet_program.specs.Programs.{FitsImage, HasRows, IsCheckable, IsFlowProgram, full_price};
 ghost use Rattle.ipet_program.specs.Tables.{AreLow, AreTurns, HasParts, IsPrice};
 
 use crate::arcs::{caps_of, values_of};
 use crate::crude::crude_of;
 use crate::fault::BuildFault;
-use crate::prices::prices_of;
+use crate::prices::{full_prices_of, prices_of};
 use crate::program::Program;
 use crate::rows::rows_of;
+use crate::stages::further_stages;
+use crate::staging::with_stages;
 use crate::turns::turns_of;
 use cache_config::Profile;
 use elf_mips::Image;
@@ -22,7 +24,7 @@ use wcet_io::List;
 /// The greatest crude bound of a program that is built: 2^63 - 1.
 const CRUDE_LIMIT: u128 = 0x7FFF_FFFF_FFFF_FFFF;
 
-/// The program of a net, of the tables of its places' prices and of its loop instances' turns.
+/// The plain part of the program of a net, of the tables of its places' prices and of its loop instances' turns.
 fn program_of(
     alloc: Global,
     net: &Net,
@@ -51,13 +53,13 @@ fn program_of(
     })
 }
 
-/// The program of a net: a column for each arc, a row for the entry, for each place and for each loop
-/// instance, in time in proportion to the net, and to how deep its loops lie in one another.
+/// The program of a net and its classes under a profile: a column for each arc and for each further stage of an access, a
+/// row for the entry, for each place and for each loop instance, and the rows of the stages, in time in proportion to
+/// the program and to the loops round the net's places.
 ///
-/// Each place stands for a unit of the image, and costs that unit's cycles under the profile. Without
-/// caches no access has a further stage, whatever the classes say. It is refused where the crude bound,
-/// the sum of all places' prices taken as often as the loops round them let them be visited, is above
-/// 2^63 - 1, and for want of memory.
+/// Each place stands for a unit of the image, and costs that unit's cycles with the first stage of each access; a stage
+/// costs its latency. It is refused where the crude bound, the sum of what all places cost with all stages, taken as
+/// often as the loops round them let them be visited, is above 2^63 - 1, and for want of memory.
 pub fn build(
     alloc: Global,
     net: &Net,
@@ -67,18 +69,22 @@ pub fn build(
 ) -> Result<Program, BuildFault>
     requires nested { IsNested net.now }
     requires fits { FitsImage image.now net.now }
-    requires few { length net.now.arcs ≤ 2 ^ 28 }
-    requires rows { HasRows net.now classes.now }
-    ensures program { IfOk result (IsProgramOf net.now (place_price profile.now image.now net.now)) }
+    requires few { length net.now.arcs ≤ 2 ^ 25 }
+    requires made { length net.now.accesses ≤ 3 * 2 ^ 16 }
+    requires rows { HasRows net.now profile.now.levels classes.now }
+    ensures program { IfOk result (IsFlowProgram net.now classes.now profile.now image.now) }
     ensures checkable { IfOk result IsCheckable }
-    ensures too_large { IfErr result (TellsTooLarge net.now (place_price profile.now image.now net.now)) }
+    ensures too_large { IfErr result (TellsTooLarge net.now (full_price profile.now image.now net.now)) }
 {
-    let prices = prices_of(alloc, net, profile, image)?;
+    let full = full_prices_of(alloc, net, profile, image)?;
     let turns = turns_of(alloc, net.loops.as_slice())?;
-    let crude = crude_of(net, &prices, &turns);
+    let crude = crude_of(net, &full, &turns);
     if crude > CRUDE_LIMIT {
         return Err(BuildFault::TooLarge { crude });
     }
-    let program = program_of(alloc, net, &prices, &turns)?;
+    let prices = prices_of(alloc, net, profile, image)?;
+    let plain = program_of(alloc, net, &prices, &turns)?;
+    let stages = further_stages(alloc, net, classes, profile)?;
+    let program = with_stages(alloc, net, &turns, plain, stages)?;
     Ok(program)
 }

@@ -23,7 +23,9 @@ mod program;
 mod rows;
 mod shows;
 mod split;
+mod stage_rows;
 mod stages;
+mod staging;
 #[cfg(test)]
 mod standing;
 #[cfg(test)]
