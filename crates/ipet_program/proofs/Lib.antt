@@ -42,4 +42,6 @@ pub mod Caps
 pub mod ArcRows
 pub mod RoundFrom
 pub mod StageLists
+pub mod OnceCounts
+pub mod PlaceAccesses
 pub mod StagesCheckable
