@@ -44,4 +44,8 @@ pub mod RoundFrom
 pub mod StageLists
 pub mod OnceCounts
 pub mod PlaceAccesses
+pub mod Entries
+pub mod StageCounts
+pub mod Placed
+pub mod RoundScopes
 pub mod StagesCheckable
