@@ -48,4 +48,5 @@ pub mod Entries
 pub mod StageCounts
 pub mod Placed
 pub mod RoundScopes
+pub mod StagesMet
 pub mod StagesCheckable
