@@ -49,4 +49,5 @@ pub mod StageCounts
 pub mod Placed
 pub mod RoundScopes
 pub mod StagesMet
+pub mod StageValues
 pub mod StagesCheckable

@@ -214,7 +214,7 @@ value-cost : (price : ℕ → ℕ) (found : Option NetArc) → arc_value price f
 value-cost price None = refl
 value-cost price (Some arc) = refl
 
-cost-along : (price : ℕ → ℕ) (arcs : List NetArc) (numbers : List ℕ) →
+pub cost-along : (price : ℕ → ℕ) (arcs : List NetArc) (numbers : List ℕ) →
     along (λ column. arc_value price (item_at column arcs)) numbers ≡ pos (path_cost price arcs numbers)
 cost-along price arcs [] = refl
 cost-along price arcs (number ∷ numbers) =
