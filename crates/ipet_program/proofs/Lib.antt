@@ -50,4 +50,6 @@ pub mod Placed
 pub mod RoundScopes
 pub mod StagesMet
 pub mod StageValues
+pub mod VisitCycles
+pub mod MomentCycles
 pub mod StagesCheckable
