@@ -52,4 +52,6 @@ pub mod StagesMet
 pub mod StageValues
 pub mod VisitCycles
 pub mod MomentCycles
+pub mod PlaceCycles
+pub mod WalkCounts
 pub mod StagesCheckable
