@@ -17,7 +17,7 @@ use Rattle.ipet_program.specs.Programs.{HasRows, IsFlowProgram, arc_value, arc_v
 use Rattle.ipet_program.specs.Rows.{rows_of}
 use Rattle.ipet_program.specs.StageRows.{stage_rows}
 use Rattle.ipet_program.specs.Stages.{further_stages}
-use Rattle.ipet_program.specs.Walked.{AreWalkCounts, CountsWalks, IsWholeWalk, TableHolds, place_own, walk_cycles}
+use Rattle.ipet_program.specs.Walked.{AreWalkCounts, CountsWalks, IsWholeWalk, TableHolds, anywhere, place_own, walk_cycles}
 use Rattle.ipet_program.specs.declared.program.Program.{Program}
 use Rattle.ipet_program.specs.declared.program.Stage.{Stage}
 use Rattle.net_model.specs.Accesses.{accesses_from}
@@ -86,9 +86,17 @@ module _ (net : Net) (nested : IsNested net) (profile : Profile) (image : Image)
 -- The counts of such a walk are feasible for the program, and their value is the walk's cycles.
 pub walk-counts : (net : Net) → IsNested net → (profile : Profile) (image : Image) (classes : ClassTable) (program : Program) →
     HasRows net profile.levels classes → IsFlowProgram net classes profile image program →
-    CountsWalks net classes profile image program
+    net.accesses ≡ accesses_from image 1 net.places → HasUnits image net →
+    (range : ℕ → ℕ → Type 0) (moments : List Moment) → IsWholeWalk net profile.levels range moments →
+    TableHolds net classes moments → AreWalkCounts net profile image program moments
 walk-counts net nested profile image classes program has is all units range moments whole holds =
     record {
       feasible = feasible net nested profile image classes program has is range moments whole holds;
       value = value net nested profile image classes program has is range moments whole all units;
     }
+
+pub counts-walks : (net : Net) → IsNested net → (profile : Profile) (image : Image) (classes : ClassTable) (program : Program) →
+    HasRows net profile.levels classes → IsFlowProgram net classes profile image program →
+    CountsWalks net classes profile image program
+counts-walks net nested profile image classes program has is all units moments whole holds =
+    walk-counts net nested profile image classes program has is all units anywhere moments whole holds

@@ -66,10 +66,15 @@ pub record AreWalkCounts (net : Net) (profile : Profile) (image : Image) (progra
   pub feasible : IsFeasible program (counts_of (length net.arcs) program.stages moments)
   pub value : value_of program (counts_of (length net.arcs) program.stages moments) ≡ pos (walk_cycles profile image net moments)
 
+-- Accesses may go to any addresses.
+abbrev pub anywhere : (access address : ℕ) → Type 0
+anywhere access address = Unit {0}
+
 -- The program counts each run of the net for which the class table holds, whose accesses are those of the units of an
--- image: `walk-counts` of proofs/WalkCounts.antt.
+-- image, whatever their addresses are. (So it counts the walks of each narrower range: `walk-counts` of
+-- proofs/WalkCounts.antt.)
 abbrev pub CountsWalks : Net → ClassTable → Profile → Image → Program → Type 0
 CountsWalks net classes profile image program =
     net.accesses ≡ accesses_from image 1 net.places → HasUnits image net →
-    (range : ℕ → ℕ → Type 0) (moments : List Moment) → IsWholeWalk net profile.levels range moments →
+    (moments : List Moment) → IsWholeWalk net profile.levels anywhere moments →
     TableHolds net classes moments → AreWalkCounts net profile image program moments
