@@ -45,5 +45,17 @@ pub mod Caps
 pub mod ArcRows
 pub mod RoundFrom
 pub mod StageLists
+pub mod OnceCounts
+pub mod PlaceAccesses
+pub mod Entries
+pub mod StageCounts
+pub mod Placed
+pub mod RoundScopes
+pub mod StagesMet
+pub mod StageValues
+pub mod VisitCycles
+pub mod MomentCycles
+pub mod PlaceCycles
+pub mod WalkCounts
 pub mod StagesCheckable
 pub mod PlainProgram

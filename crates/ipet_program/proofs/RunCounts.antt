@@ -25,6 +25,7 @@ use Rattle.ipet_program.specs.Programs.{arc_value, IsProgramOf}
 use Rattle.ipet_program.specs.Rows.{comes_to, entry_row, goes_from, is_entering, loop_factor, loop_row, loop_row_of, one_if, place_factor, place_row, rows_of, terms_of}
 use Rattle.ipet_program.specs.Sums.{numbered}
 use Rattle.ipet_program.specs.declared.program.Program.{Program}
+use Rattle.ipet_program.specs.declared.program.Stage.{Stage}
 use Rattle.ipet_program.proofs.Entering.{is_entering-enters}
 use Rattle.ipet_program.proofs.Exchange.{IsColumn}
 use Rattle.ipet_program.proofs.Numbered.{numbered-all, item_at-numbered, length-numbered}
@@ -173,47 +174,47 @@ loop-along net scopes scope inst at from left (number ∷ numbers) to chain keep
     ]
 
 -- A row that is written by its factors, with the counts of a run.
-row-along : (factor : ℕ → ℤ) (n : ℕ) (moments : List Moment) → All (IsColumn n) (arcs_of moments) →
-    row_sum (counts_of moments) (terms_of factor n) ≡ along factor (arcs_of moments)
-row-along factor n moments within =
-    row_sum-terms (counts_of moments) factor n ∙ counts-along n factor moments within
+pub row-along : (factor : ℕ → ℤ) (n : ℕ) (stages : List Stage) (moments : List Moment) → All (IsColumn n) (arcs_of moments) →
+    row_sum (counts_of n stages moments) (terms_of factor n) ≡ along factor (arcs_of moments)
+row-along factor n stages moments within =
+    row_sum-terms (counts_of n stages moments) factor n ∙ counts-along n stages factor moments within
 
-loop-met : (net : Net) → HasScopes net → (moments : List Moment) →
+loop-met : (net : Net) → HasScopes net → (stages : List Stage) (moments : List Moment) →
     IsChain net.arcs 0 (arcs_of moments) 0 → KeepsBounds net (targets_along net.arcs (arcs_of moments)) →
     (scope : ℕ) (found : Option LoopInst) → item_at scope net.loops ≡ found →
-    IsMet (counts_of moments) (loop_row_of net.arcs (holds_of net scope) found)
-loop-met net scopes moments chain keeps scope None there = omega (arith, ints)
-loop-met net scopes moments chain keeps scope (Some inst) there =
-    let sum = row-along (loop_factor net.arcs (holds_of net scope) inst) (length net.arcs) moments
+    IsMet (counts_of (length net.arcs) stages moments) (loop_row_of net.arcs (holds_of net scope) found)
+loop-met net scopes stages moments chain keeps scope None there = omega (arith, ints)
+loop-met net scopes stages moments chain keeps scope (Some inst) there =
+    let sum = row-along (loop_factor net.arcs (holds_of net scope) inst) (length net.arcs) stages moments
     (chain-columns net.arcs 0 (arcs_of moments) 0 chain) in
     let most = loop-along net scopes scope inst there 0 0 (arcs_of moments) 0 chain (keeps scope inst there) in
     omega (arith, ints)
 
-rows-met : (net : Net) → HasScopes net → (moments : List Moment) →
+pub rows-met : (net : Net) → HasScopes net → (stages : List Stage) (moments : List Moment) →
     IsRunPath net.arcs (arcs_of moments) 0 → KeepsBounds net (targets_along net.arcs (arcs_of moments)) →
-    All (IsMet (counts_of moments)) (rows_of net)
-rows-met net scopes moments path keeps =
+    All (IsMet (counts_of (length net.arcs) stages moments)) (rows_of net)
+rows-met net scopes stages moments path keeps =
     let chain = chain-of_run net.arcs (arcs_of moments) 0 path in
     let within = chain-columns net.arcs 0 (arcs_of moments) 0 chain in
     let places = numbered (place_row net.arcs) (length net.places) in
     let loops = numbered (loop_row net) (length net.loops) in
-    All-cons (IsMet (counts_of moments)) (entry_row (length net.arcs)) (places ++ loops)
-    (row-along (λ column. one_if (column == 1)) (length net.arcs) moments within
+    All-cons (IsMet (counts_of (length net.arcs) stages moments)) (entry_row (length net.arcs)) (places ++ loops)
+    (row-along (λ column. one_if (column == 1)) (length net.arcs) stages moments within
     ∙ entry-run net.arcs (arcs_of moments) 0 path)
-    (All-append (IsMet (counts_of moments)) places loops
-    (numbered-all (IsMet (counts_of moments)) (place_row net.arcs) (length net.places)
-    (λ place low high. row-along (place_factor net.arcs place) (length net.arcs) moments within
+    (All-append (IsMet (counts_of (length net.arcs) stages moments)) places loops
+    (numbered-all (IsMet (counts_of (length net.arcs) stages moments)) (place_row net.arcs) (length net.places)
+    (λ place low high. row-along (place_factor net.arcs place) (length net.arcs) stages moments within
     ∙ place-along net.arcs place 0 (arcs_of moments) 0 chain
     ∙ omega (arith, ints)))
-    (numbered-all (IsMet (counts_of moments)) (loop_row net) (length net.loops)
-    (λ scope low high. loop-met net scopes moments chain keeps scope (item_at scope net.loops) refl)))
+    (numbered-all (IsMet (counts_of (length net.arcs) stages moments)) (loop_row net) (length net.loops)
+    (λ scope low high. loop-met net scopes stages moments chain keeps scope (item_at scope net.loops) refl)))
 
 -- ---- The value.
 value-cost : (price : ℕ → ℕ) (found : Option NetArc) → arc_value price found ≡ pos (arc_cost price found)
 value-cost price None = refl
 value-cost price (Some arc) = refl
 
-cost-along : (price : ℕ → ℕ) (arcs : List NetArc) (numbers : List ℕ) →
+pub cost-along : (price : ℕ → ℕ) (arcs : List NetArc) (numbers : List ℕ) →
     along (λ column. arc_value price (item_at column arcs)) numbers ≡ pos (path_cost price arcs numbers)
 cost-along price arcs [] = refl
 cost-along price arcs (number ∷ numbers) =
@@ -240,22 +241,23 @@ length-value net price program is =
     ∙ length-numbered (λ j. arc_value price (item_at j net.arcs)) (length net.arcs) ∙ sym is.columns
 
 value-run : (net : Net) (price : ℕ → ℕ) (program : Program) → IsProgramOf net price program →
-    (moments : List Moment) → All (IsColumn (length net.arcs)) (arcs_of moments) →
-    value_of program (counts_of moments) ≡ pos (cycles_along price net.arcs moments)
-value-run net price program is moments within =
-    value_of-total program (counts_of moments) (length-value net price program is)
-    ∙ ap (λ (n : ℕ). total_to n (λ j. value_at program j *ℤ pos (counts_of moments j))) is.columns
-    ∙ total_to-same (λ j. value_at program j *ℤ pos (counts_of moments j))
-    (λ j. arc_value price (item_at j net.arcs) *ℤ pos (counts_of moments j)) (length net.arcs)
-    (λ j low high. ap (λ (z : ℤ). z *ℤ pos (counts_of moments j))
+    (stages : List Stage) (moments : List Moment) → All (IsColumn (length net.arcs)) (arcs_of moments) →
+    value_of program (counts_of (length net.arcs) stages moments) ≡ pos (cycles_along price net.arcs moments)
+value-run net price program is stages moments within =
+    let counts : ℕ → ℕ = counts_of (length net.arcs) stages moments in
+    value_of-total program counts (length-value net price program is)
+    ∙ ap (λ (n : ℕ). total_to n (λ j. value_at program j *ℤ pos (counts j))) is.columns
+    ∙ total_to-same (λ j. value_at program j *ℤ pos (counts j))
+    (λ j. arc_value price (item_at j net.arcs) *ℤ pos (counts j)) (length net.arcs)
+    (λ j low high. ap (λ (z : ℤ). z *ℤ pos (counts j))
     (value_at-arc net price program is j (low, high)))
-    ∙ counts-along (length net.arcs) (λ j. arc_value price (item_at j net.arcs)) moments within
+    ∙ counts-along (length net.arcs) stages (λ j. arc_value price (item_at j net.arcs)) moments within
     ∙ cost-along price net.arcs (arcs_of moments)
 
 -- The counts of a run: they are feasible, and their value is its cycles.
 pub record AreRunCounts (net : Net) (price : ℕ → ℕ) (program : Program) (moments : List Moment) : Type 0 where
-  pub feasible : IsFeasible program (counts_of moments)
-  pub value : value_of program (counts_of moments) ≡ pos (cycles_along price net.arcs moments)
+  pub feasible : IsFeasible program (counts_of (length net.arcs) program.stages moments)
+  pub value : value_of program (counts_of (length net.arcs) program.stages moments) ≡ pos (cycles_along price net.arcs moments)
 
 -- A run that goes from arc 1 to an arc to 0 and keeps the bounds of the loops has counts that are feasible for
 -- the program of the net, and their value is its cycles.
@@ -264,8 +266,8 @@ pub run-counts : (net : Net) → HasScopes net → (price : ℕ → ℕ) (progra
     KeepsBounds net (targets_along net.arcs (arcs_of moments)) → AreRunCounts net price program moments
 run-counts net scopes price program is moments path keeps =
     record {
-      feasible = All-same (IsMet (counts_of moments)) program.rows (rows_of net) is.rows
-          (rows-met net scopes moments path keeps);
-      value = value-run net price program is moments
+      feasible = All-same (IsMet (counts_of (length net.arcs) program.stages moments)) program.rows (rows_of net) is.rows
+          (rows-met net scopes program.stages moments path keeps);
+      value = value-run net price program is program.stages moments
           (chain-columns net.arcs 0 (arcs_of moments) 0 (chain-of_run net.arcs (arcs_of moments) 0 path));
     }

@@ -1,5 +1,5 @@
 -- Sums over the columns with a run's counts are sums along its arcs.
-use Rattle.std.proofs.Common.{◌≡◌, ℕ, ◌+◌, cond, List, [], ◌∷◌, length, map, All, Some, refl, sym, ap, ◌∙◌, arith}
+use Rattle.std.proofs.Common.{◌≡◌, ℕ, ◌+◌, ◌-◌, ◌≤◌, cond, List, [], ◌∷◌, length, map, All, Some, refl, sym, ap, ◌∙◌, arith}
 use Rattle.std.specs.Prelude.{◌==◌, count_by}
 use Rattle.std.proofs.lemmas.Bool.Decides.{nat_tests}
 use Rattle.std.proofs.lemmas.Int.{ints}
@@ -12,8 +12,9 @@ use Rattle.flow_net.specs.declared.net.NetArc.{NetArc}
 use Rattle.flow_net.proofs.Numbers.{item_at-within}
 use Rattle.net_model.specs.Moments.{arcs_of, Moment}
 use Rattle.net_model.specs.Moments.Moment.{Makes, Takes}
-use Rattle.ipet_program.specs.Counts.{counts_for, counts_of}
+use Rattle.ipet_program.specs.Counts.{counts_for, counts_of, goes_on_to}
 use Rattle.ipet_program.specs.Leaves.{total}
+use Rattle.ipet_program.specs.declared.program.Stage.{Stage}
 use Rattle.ipet_program.proofs.Whole.{mul-sum}
 use Rattle.ipet_program.proofs.Totals.{total_to, total_to-none, total_to-one, total_to-same, total_to-sum}
 use Rattle.ipet_program.proofs.Exchange.{IsColumn}
@@ -22,17 +23,21 @@ use Rattle.ipet_program.proofs.Exchange.{IsColumn}
 abbrev pub times : List ℕ → ℕ → ℕ
 times numbers column = count_by (λ (number : ℕ). number == column) numbers
 
-counts_of-times : (moments : List Moment) (column : ℕ) →
-    counts_of moments column ≡ times (arcs_of moments) column
-counts_of-times [] column = refl
-counts_of-times (Takes arc ∷ more) column =
-    sum_by-cons (λ (m : Moment). cond (counts_for column m) 1 0) (Takes arc) more
-    ∙ ap (λ (n : ℕ). cond (arc == column) 1 0 + n) (counts_of-times more column)
+-- The columns of arcs count the arcs of that number, whatever the stages are.
+pub counts_of-times : (arcs : ℕ) (stages : List Stage) (moments : List Moment) (column : ℕ) → column ≤ arcs →
+    counts_of arcs stages moments column ≡ times (arcs_of moments) column
+counts_of-times arcs stages [] column low = refl
+counts_of-times arcs stages (Takes arc ∷ more) column low =
+    sum_by-cons (λ (m : Moment). cond (counts_for arcs stages column m) 1 0) (Takes arc) more
+    ∙ ap (λ (n : ℕ). cond (arc == column) 1 0 + n) (counts_of-times arcs stages more column low)
     ∙ sym (sum_by-cons (λ (number : ℕ). cond (number == column) 1 0) arc (arcs_of more))
-counts_of-times (Makes access address caches hit ∷ more) column =
-    let rest = counts_of-times more column in
-    let sum = sum_by-cons (λ (m : Moment). cond (counts_for column m) 1 0) (Makes access address caches hit) more in
-    omega (arith, rest, sum)
+counts_of-times arcs stages (Makes access address caches hit ∷ more) column low =
+    let rest = counts_of-times arcs stages more column low in
+    let sum = sum_by-cons (λ (m : Moment). cond (counts_for arcs stages column m) 1 0) (Makes access address caches hit) more in
+    let before : column - arcs ≡ 0 = omega (arith, low) in
+    let none : ◌≡◌ {A = ℕ} (cond (counts_for arcs stages column (Makes access address caches hit)) 1 0) 0 =
+    ap (λ (n : ℕ). cond (goes_on_to (item_at n stages) access caches hit) 1 0) before in
+    omega (arith, rest, sum, none)
 
 own : (number : ℕ) → ◌≡◌ {A = ℕ} (cond (number == number) 1 0) 1
 own number = grind (arith, nat_tests)
@@ -63,11 +68,11 @@ times-along n f (number ∷ more) within =
     omega (arith, ints)
 
 -- The sum of factor times count over the columns is the sum of the factors of the arcs that the run takes.
-pub counts-along : (n : ℕ) (f : ℕ → ℤ) (moments : List Moment) → All (IsColumn n) (arcs_of moments) →
-    total_to n (λ j. f j *ℤ pos (counts_of moments j)) ≡ along f (arcs_of moments)
-counts-along n f moments within =
-    total_to-same (λ j. f j *ℤ pos (counts_of moments j)) (λ j. f j *ℤ pos (times (arcs_of moments) j)) n
-    (λ j low high. ap (λ (m : ℕ). f j *ℤ pos m) (counts_of-times moments j))
+pub counts-along : (n : ℕ) (stages : List Stage) (f : ℕ → ℤ) (moments : List Moment) → All (IsColumn n) (arcs_of moments) →
+    total_to n (λ j. f j *ℤ pos (counts_of n stages moments j)) ≡ along f (arcs_of moments)
+counts-along n stages f moments within =
+    total_to-same (λ j. f j *ℤ pos (counts_of n stages moments j)) (λ j. f j *ℤ pos (times (arcs_of moments) j)) n
+    (λ j low high. ap (λ (m : ℕ). f j *ℤ pos m) (counts_of-times n stages moments j high))
     ∙ times-along n f (arcs_of moments) within
 
 -- Arcs of which each begins where the one before it ended.

@@ -15,7 +15,7 @@ row_sum-append counts (term ∷ terms) others =
     omega (arith, ints)
 
 -- A factor of 0 adds nothing, whether it has a term or not.
-row_sum-term : (counts : ℕ → ℕ) (column : ℕ) (factor : ℤ) →
+pub row_sum-term : (counts : ℕ → ℕ) (column : ℕ) (factor : ℤ) →
     row_sum counts (term_of column factor) ≡ factor *ℤ pos (counts column)
 row_sum-term counts column (pos zero) = omega (arith, ints)
 row_sum-term counts column (pos (suc n)) = omega (arith, ints)

@@ -8,7 +8,7 @@ use Rattle.ipet_program.specs.declared.program.Program.{Program}
 use Rattle.ipet_program.proofs.Totals.{total_to}
 
 -- The sum of what a function gives for n numbers from a number on.
-abbrev from_total : ℕ → ℕ → (ℕ → ℤ) → ℤ
+abbrev pub from_total : ℕ → ℕ → (ℕ → ℤ) → ℤ
 from_total start zero f = pos 0
 from_total start (suc n) f = f start +ℤ from_total (suc start) n f
 
@@ -22,7 +22,7 @@ from_total-last start (suc n) f =
     let e : f (start + suc n) ≡ f (suc start + n) = ap f (omega arith) in
     omega (arith, ints)
 
-from_one : (n : ℕ) (f : ℕ → ℤ) → from_total 1 n f ≡ total_to n f
+pub from_one : (n : ℕ) (f : ℕ → ℤ) → from_total 1 n f ≡ total_to n f
 from_one zero f = refl
 from_one (suc n) f =
     let last = from_total-last 1 n f in
@@ -30,7 +30,7 @@ from_one (suc n) f =
     let e : f (1 + n) ≡ f (suc n) = ap f (omega arith) in
     omega (arith, ints)
 
-value_from-total : (start : ℕ) (counts : ℕ → ℕ) (values : List ℤ) (g : ℕ → ℤ) →
+pub value_from-total : (start : ℕ) (counts : ℕ → ℕ) (values : List ℤ) (g : ℕ → ℤ) →
     ((i : ℕ) → value_or_zero (slice_get values i) ≡ g (start + i)) →
     value_from start counts values ≡ from_total start (length values) (λ j. g j *ℤ pos (counts j))
 value_from-total start counts [] g h = refl

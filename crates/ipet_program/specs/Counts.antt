@@ -1,12 +1,14 @@
 -- Which counts a program allows, and their value.
-use Rattle.std.specs.Prelude.{◌≡◌, ℕ, suc, ◌<◌, ◌≤◌, ◌==◌, Bool, true, false, ℤ, pos, ◌+ℤ◌, ◌*ℤ◌, ◌≤ℤ◌, List, [], ◌∷◌, All, AllPairs, Option, Some, None, sum_by, count_by, if◌then◌else◌}
+use Rattle.std.specs.Prelude.{◌≡◌, ℕ, suc, ◌<◌, ◌≤◌, ◌==◌, ◌-◌, ◌&&◌, Bool, true, false, ℤ, pos, ◌+ℤ◌, ◌*ℤ◌, ◌≤ℤ◌, List, [], ◌∷◌, All, AllPairs, Option, Some, None, sum_by, count_by, if◌then◌else◌}
 use Rattle.flow_net.specs.Numbers.{item_at}
 use Rattle.flow_net.specs.declared.net.NetArc.{NetArc}
+use Rattle.net_model.specs.Claims.{misses}
 use Rattle.net_model.specs.Moments.{arcs_of, Moment}
 use Rattle.net_model.specs.Moments.Moment.{Makes, Takes}
 use Rattle.ipet_program.specs.declared.certificate.Count.{Count}
 use Rattle.ipet_program.specs.declared.program.Program.{Program}
 use Rattle.ipet_program.specs.declared.program.Row.{Row}
+use Rattle.ipet_program.specs.declared.program.Stage.{Stage}
 use Rattle.ipet_program.specs.declared.program.Term.{Term}
 
 -- The sum of a row: each factor times the count of its column.
@@ -71,13 +73,20 @@ path_cost price arcs numbers = sum_by (λ number. arc_cost price (item_at number
 abbrev pub cycles_along : (ℕ → ℕ) → List NetArc → List Moment → ℕ
 cycles_along price arcs moments = path_cost price arcs (arcs_of moments)
 
--- Whether what the run does counts for a column: it takes the arc of that number. An access counts for no column: its
--- first stage has its latency in the value of the arc to its place, and there is no further one.
-abbrev pub counts_for : ℕ → Moment → Bool
-counts_for column (Takes arc) = arc == column
-counts_for column (Makes access address caches hit) = false
+-- An access goes on to a stage: it is the stage's own, and misses at the cache before it.
+abbrev pub goes_on_to : Option Stage → (access caches : ℕ) (hit : Bool) → Bool
+goes_on_to None access caches hit = false
+goes_on_to (Some stage) access caches hit = (access == stage.access) && misses stage.level caches hit
+
+-- Whether what the run does counts for a column. The first columns are those of the arcs, so many of them: the run takes
+-- the arc of that number. Then come those of the further stages: an access goes on to the stage. (The first stage of an
+-- access has its latency in the value of the arc to its place.)
+abbrev pub counts_for : (arcs : ℕ) → List Stage → (column : ℕ) → Moment → Bool
+counts_for arcs stages column (Takes arc) = arc == column
+counts_for arcs stages column (Makes access address caches hit) =
+    goes_on_to (item_at (column - arcs) stages) access caches hit
 
 -- The counts of a run: for each column, how often it counts. They are feasible for the program of the net, and
 -- their value is the run's cycles (`run-counts` of proofs/RunCounts.antt).
-abbrev pub counts_of : List Moment → ℕ → ℕ
-counts_of moments column = count_by (counts_for column) moments
+abbrev pub counts_of : (arcs : ℕ) → List Stage → List Moment → ℕ → ℕ
+counts_of arcs stages moments column = count_by (counts_for arcs stages column) moments

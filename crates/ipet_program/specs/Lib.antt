@@ -17,3 +17,4 @@ pub mod Tables
 pub mod StageTables
 pub mod Faults
 pub mod Forward
+pub mod Walked

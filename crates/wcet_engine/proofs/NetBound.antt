@@ -218,5 +218,5 @@ pub counted-bounds : (image : Image) (profile : Profile) (entry : ℕ) (net : Ne
 counted-bounds image profile entry net program bound counted greatest m start machines spoken returned =
     let run = counted m start machines spoken returned in
     let value = run.value in
-    let most = greatest (counts_of run.moments) run.feasible in
+    let most = greatest (counts_of (length net.arcs) program.stages run.moments) run.feasible in
     omega (arith, ints)

@@ -32,9 +32,9 @@ pub record IsCounted (net : Net) (program : Program) (entry : ℕ) (did : List R
   -- The arcs are a path from arc 1 to an arc to 0.
   pub path : IsRunPath net.arcs (arcs_of moments) 0
   -- How often it takes each arc are counts that the program allows.
-  pub feasible : IsFeasible program (counts_of moments)
+  pub feasible : IsFeasible program (counts_of (length net.arcs) program.stages moments)
   -- Their value is the cycles of the run.
-  pub value : value_of program (counts_of moments) ≡ pos cycles
+  pub value : value_of program (counts_of (length net.arcs) program.stages moments) ≡ pos cycles
 
 -- Each run of the machine that the headline speaks of and whose entry has returned is so counted, with its cycles.
 abbrev pub CountsRuns : Image → Profile → (entry : ℕ) → Net → Program → Type 0
