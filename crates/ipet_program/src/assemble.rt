@@ -4,6 +4,7 @@ ghost use Rattle.std.specs.Prelude.{◌≡◌, ◌*◌, ◌≤◌, ◌<◌, ◌^
 ghost use Rattle.flow_net.specs.Nested.{IsNested};
 ghost use Rattle.ipet_program.specs.Faults.{TellsTooLarge};
 ghost use Rattle.ipet_program.specs.Programs.{FitsImage, HasRows, IsCheckable, IsFlowProgram, full_price};
+ghost use Rattle.ipet_program.specs.Walked.{CountsWalks};
 ghost use Rattle.ipet_program.specs.Tables.{AreLow, AreTurns, HasParts, IsPrice};
 
 use crate::arcs::{caps_of, values_of};
@@ -73,6 +74,8 @@ pub fn build(
     requires made { length net.now.accesses ≤ 3 * 2 ^ 16 }
     requires rows { HasRows net.now profile.now.levels classes.now }
     ensures program { IfOk result (IsFlowProgram net.now classes.now profile.now image.now) }
+    // A run whose classes hold has feasible counts, and their value is its cycles.
+    ensures counted { IfOk result (CountsWalks net.now classes.now profile.now image.now) }
     ensures checkable { IfOk result IsCheckable }
     ensures too_large { IfErr result (TellsTooLarge net.now (full_price profile.now image.now net.now)) }
 {

@@ -12,6 +12,7 @@ use Rattle.ipet_program.specs.declared.program.Row.{Row}
 use Rattle.ipet_program.specs.declared.program.Stage.{Stage}
 use Rattle.ipet_program.proofs.Crudely.{is-low, low-by, priced-each}
 use Rattle.ipet_program.proofs.StagesCheckable.{befores, staged-checkable}
+use Rattle.ipet_program.proofs.WalkCounts.{counts-walks}
 use Rattle.ipet_program.proofs.assemble.build.Goals as goal
 
 some-each : (prices : List ℕ) → All IsFullPrice prices → All (λ (p : ℕ). 1 ≤ p) prices
@@ -59,6 +60,11 @@ returns-clause-program c =
           (c.crude_of-crude.ensures.crude full (c.deref.ensures.value ∙ c.in_ok-full.ensures.prices))
           c.if-crude-gt-CRUDE_LIMIT.false;
     }
+
+pub returns-clause-counted : goal.returns-clause-counted
+returns-clause-counted c =
+    counts-walks c.args.net.now c.requires.nested c.args.profile.now c.args.image.now c.args.classes.now c.in_ok-program.program
+    c.requires.rows (returns-clause-program c)
 
 pub returns-clause-checkable : goal.returns-clause-checkable
 returns-clause-checkable c =
