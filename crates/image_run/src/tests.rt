@@ -10,7 +10,7 @@ use call_contexts::expand;
 use elf_mips::{Image, read_image};
 use flow_net::Net;
 use loop_nest::find_loops;
-use mips_machine::{Tally, TrapKind, has_clash};
+use mips_machine::{Tally, TrapKind, clash_place};
 use std::alloc::{AllocError, Global};
 use std::test::Fail;
 use unit_graph::function_graphs;
@@ -96,7 +96,7 @@ fn run_of(
         return Err("a profile with a fault".into());
     };
     let image = image_of(alloc, words, records)?;
-    if has_clash(&image, &profile) {
+    if let Some(_) = clash_place(&image, &profile) {
         return Err("a clash".into());
     }
     let net = net_of(alloc, &image)?;
