@@ -1,5 +1,5 @@
 -- Runs in the net of a program, and how its flow program counts them.
-use Rattle.std.specs.Prelude.{◌≡◌, ℕ, pos, List}
+use Rattle.std.specs.Prelude.{◌≡◌, ℕ, pos, List, length}
 use Rattle.cache_config.specs.declared.profile.Profile.{Profile}
 use Rattle.elf_mips.specs.declared.image.Image.{Image}
 use Rattle.elf_mips.specs.Segments.{code_at as image_code}
