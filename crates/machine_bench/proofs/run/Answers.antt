@@ -7,7 +7,7 @@ pub returns-in-Returned-clause-ends : goal.returns-in-Returned-clause-ends
 returns-in-Returned-clause-ends c = λ few. inr (inr (subst (λ (n : ℕ). HasReturned n c.args.machine.now) next returned))
   where
     returned : HasReturned (suc c.loop-unit.unit) c.args.machine.now
-    returned = ap (λ (a : After). a.outcome) (sym (c.step.ensures ∙ ap whole_step c.loop-unit.invariant)) ∙ c.in-Returned.is
+    returned = ap (λ (a : After). a.outcome) (sym (c.step.ensures.whole ∙ ap whole_step c.loop-unit.invariant)) ∙ c.in-Returned.is
 
     next : suc c.loop-unit.unit ≡ c.loop-unit.unit + 1
     next = omega arith
