@@ -38,7 +38,7 @@ abbrev pub zero_rows : (never : Bool) → (column : ℕ) → List Row
 zero_rows never column = if never then zero_row column ∷ [] else []
 
 -- Whether the arc of this number enters the scope: the run is entered by arc 1. (The test tells `Enters`:
--- `enters_by-enters` of proofs/Entering.antt.)
+-- `test-enters` of proofs/Entries.antt.)
 abbrev pub enters_loop : Net → (scope : ℕ) → Option LoopInst → (arc : ℕ) → Bool
 enters_loop net scope None arc = false
 enters_loop net scope (Some inst) arc = is_entering (holds_of net scope) inst.header (item_at arc net.arcs)
