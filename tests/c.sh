@@ -137,6 +137,22 @@ if [ -e "$work/widths.elf" ]; then
     compare_with_run widths "$plain"
 fi
 
+# A device, and the array that a run reads in its place: 1 + 2 + 3 + 4.
+build device.log "$@" "$work/device.elf"
+check "device: built" "$? $(grep -v "$said" "$work/device.log")" "0 "
+if [ -e "$work/device.elf" ]; then
+    analyse device "$plain"
+    trace device 10
+    compare_with_run device "$plain"
+fi
+build ports.log "$@" OUT="$work/ports" DEFINED=-DDEVICE "$work/ports/device.elf"
+check "ports: the ranges" "$(grep -c '^access at .* from A0000000 to below A0000010$' "$work/ports.log")" 2
+if [ -e "$work/ports/device.elf" ]; then
+    mv "$work/ports/device.elf" "$work/ports.elf"
+    { cat "$plain"; printf '[[region]]\nstart = 0xA000_0000\nsize = 16\n'; } >"$work/ports.toml"
+    analyse ports "$work/ports.toml"
+fi
+
 # A second source: the functions of memory.c, called by name and by the compiler.
 build copies.log "$@" --eval "$work/copies.elf: $work/memory.o" "$work/copies.elf"
 check "copies: built" "$? $(grep -v "$said" "$work/copies.log")" "0 "
@@ -165,6 +181,28 @@ if is_there qemu-mips; then
     check "without registers: cycles" "$("$cycles" run "$work/crc.elf" "$work/short.trace")" \
         "$("$cycles" run "$work/crc.elf" "$work/crc.trace")"
 fi
+
+# A trace of another build: it is older than the program.
+if is_there qemu-mips; then
+    cp "$work/crc.trace" "$work/old.trace"
+    touch -d '1 hour ago' "$work/old.trace"
+    older="$work/old.trace: it is older than $work/crc.elf, so it may be the run of another build"
+    check "an old trace: records" "$("$top/examples/c/kept.py" "$work/crc.elf" "$work/old.trace" task 2>&1) $?" "$older 1"
+    check "an old trace: cycles" "$("$cycles" run "$work/crc.elf" "$work/old.trace" 2>&1) $?" "$older 1"
+fi
+
+# A changed header builds the program again, and a changed Makefile.
+mkdir "$work/again"
+cp "$top"/examples/c/*.{c,S,h,inc,ld,py} "$top/examples/c/Makefile" "$work/again"
+make -s -C "$work/again" "$@" out/crc.elf >"$work/again.log" 2>&1
+for name in wcet.h Makefile; do
+    touch -d '1 hour ago' "$work"/again/*.* "$work"/again/Makefile "$work"/again/out/*
+    make -q -C "$work/again" "$@" out/crc.elf >"$work/again.log" 2>&1
+    check "before $name changes: make has nothing to do" "$?" 0
+    touch "$work/again/$name"
+    make -q -C "$work/again" "$@" out/crc.elf >"$work/again.log" 2>&1
+    check "a changed $name: make has something to do" "$?" 1
+done
 
 # The causes of a bound far above the run, as the guide tells them with their numbers: each function, and how it is mended.
 build loose.log "$@" "$work/loose.elf"
@@ -198,6 +236,11 @@ echo 'entry = "length"' >"$work/length.toml"
 analyse find "$work/length.toml"
 compare_with_run find "$work/length.toml"
 
+# Its records alone are looked at: a text of 19 bytes, so the loop's header is visited 20 times.
+build entry.log "$@" OUT="$work/entry" ENTRY=length "$work/entry/find.elf"
+check "another entry: its loop" "$(grep -c '^loop [0-9A-F]* (length.*: 20 visits, by' "$work/entry.log")" 1
+check "another entry: no other loop" "$(grep -c '^loop ' "$work/entry.log")" 1
+
 # Small data, which register 28 reaches.
 build small.log MACHINE='-EB -march=mips1 -mabi=32 -msoft-float -mno-abicalls -fno-pic -fno-pie -G8 -ffreestanding' \
     OUT="$work/small" "$work/small/crossing.elf"
@@ -214,6 +257,11 @@ fi
 # A profile with a cache.
 "$wcet" bound "$work/sort.elf" "$top/examples/profiles/fetch-cache.toml" >"$work/bound" 2>"$work/error"
 check "a cache, which isn't taken yet" "$? $(cat "$work/bound" "$work/error")" "2 refused unbuilt 00000000"
+if is_there qemu-mips; then
+    told=$("$cycles" run "$work/sort.elf" "$work/sort.trace" "$top/examples/profiles/fetch-cache.toml" 2>&1)
+    check "a cache, whose cycles aren't added up" "$? ${told##*/}" \
+        "1 fetch-cache.toml: the cycles of caches aren't added up here"
+fi
 
 # With the flags of the Makefile these programs are built; without them the compiler copies their records, and that is
 # an error of the assembler.

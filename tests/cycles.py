@@ -20,7 +20,7 @@ sys.path.insert(0, os.path.join(os.path.dirname(os.path.abspath(__file__)), ".."
 from executables import Profile  # noqa: E402
 from instructions import Instruction  # noqa: E402
 from program import Elf  # noqa: E402
-from traces import calls  # noqa: E402
+from traces import calls, opened  # noqa: E402
 
 
 def profile_of(path):
@@ -28,6 +28,8 @@ def profile_of(path):
     import tomllib
     with open(path, "rb") as file:
         told = tomllib.load(file)
+    if told.get("cache"):
+        raise SystemExit(f"{path}: the cycles of caches aren't added up here")
     costs = {name: told[name] for name in ("memory", "store", "cycles") if name in told}
     return Profile(entry=told.get("entry"), **costs)
 
@@ -73,7 +75,7 @@ def main(words):
         return checksum(Elf(words[1]))
     if len(words) in (3, 4) and words[0] in ("sum", "run"):
         profile = profile_of(words[3]) if len(words) == 4 else Profile(entry="task")
-        with open(words[2]) as file:
+        with opened(words[2], words[1]) if words[0] == "run" else open(words[2]) as file:
             return (added if words[0] == "sum" else traced)(Elf(words[1]), file, profile)
     raise SystemExit(__doc__)
 

@@ -18,6 +18,7 @@ fi
 cd "$trials" || exit 1
 cp "$top/examples/return.elf" return.elf
 printf 'speed = 1\n' >speed.toml
+printf 'memory = 20\nstore =\n' >cut.toml
 head -c 16777217 /dev/zero >too-long
 : >empty
 mkdir folder
@@ -60,6 +61,8 @@ trial "a missing profile" "^cause: there is no file 'gone.toml'$" bound return.e
 trial "a directory" "^cause: 'folder' is a directory$" bound folder
 trial "an empty file" '^cause: the file has 0 bytes, fewer than' bound empty
 trial "an unknown key" '^ cure: docs/FORMATS.md lists the keys' bound return.elf speed.toml
+python3 -c 'import tomllib' 2>/dev/null &&
+    trial "a profile that isn't TOML" '^ here: cut.toml: .*line 2' bound return.elf cut.toml
 trial "a file that is too long" '^ here: too-long has 16777217 bytes$' bound too-long
 trial "a loop without a record: cause" '^cause: no record names the loop of header 00400000 as' bound loop.elf
 trial "a loop without a record: place" '^ here: 00400000 (spin+0x0)$' bound loop.elf

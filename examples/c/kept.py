@@ -18,8 +18,8 @@ doesn't. The status is 1 where a record was broken.
 import sys
 
 sys.dont_write_bytecode = True
-from program import LOADS, RANGE, STORES, Code, Elf, Function, Places, bounds, functions  # noqa: E402
-from traces import calls, units  # noqa: E402
+from program import LOADS, RANGE, Code, Elf, Places, bounds, functions  # noqa: E402
+from traces import calls, opened, units  # noqa: E402
 
 STACK_POINTER = 29
 # How many bytes a load or store has. The other ones take a part of an aligned word.
@@ -58,8 +58,16 @@ class Watch:
         return self.code.is_indirect(address) and not self.code.is_jump_to_link(address)
 
     def add_loops(self, function):
+        """The bounds of a function's loops. Code that two functions share has the least one of both."""
         for header, found in bounds(self.elf, self.code, function).items():
-            self.bounds[header] = min((bound.visits for bound in found), default=None)
+            told = [bound.visits for bound in found] + [self.bounds.get(header)]
+            self.bounds[header] = min((visits for visits in told if visits is not None), default=None)
+
+    def add_functions(self, entry):
+        """What is called without a record leads to functions of its own."""
+        for address, function in functions(self.code, entry).items():
+            if self.functions.setdefault(address, function) is function:
+                self.add_loops(function)
 
     def breaks(self, *words):
         """Keeps what broke a record, once: text, with addresses between."""
@@ -119,8 +127,7 @@ class Watch:
                 frames.append(Frame(self.functions[self.entry], None))
         elif self.code.links(address) and onward not in (None, address + 8):
             if onward not in self.functions:
-                self.functions[onward] = Function(self.code, onward)
-                self.add_loops(self.functions[onward])
+                self.add_functions(onward)
             frames.append(Frame(self.functions[onward], address + 8))
 
     def find_too_many(self):
@@ -156,7 +163,7 @@ class Watch:
 def main(path, trace, name):
     elf = Elf(path)
     watch = Watch(elf, elf.address_of(name))
-    with open(trace) as lines:
+    with opened(trace, path) as lines:
         for steps in calls(lines, watch.entry):
             watch.run(steps)
     if watch.runs == 0:

@@ -1,6 +1,6 @@
 /* memcpy, memset and memmove with records. The compiler calls the first two by itself, for structures, and their names
- * are the C library's. Each copies at most WCET_MOST bytes in a call: give the Makefile another number where a program
- * copies more, as CFLAGS+=-DWCET_MOST=256. */
+ * are the C library's. Each copies at most WCET_MOST bytes in a call: give MOST in the Makefile another number where a
+ * program copies more. */
 #include "wcet.h"
 
 #ifndef WCET_MOST

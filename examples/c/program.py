@@ -1,7 +1,8 @@
 """A built program by its code: the words, records and symbols of its file, its functions and their loops.
 
-It reads what the analyser reads, and has nothing of it. Each call is taken to come back.
+It reads what the analyser reads, and has nothing of it. A call comes back where a function that it calls can return.
 """
+import functools
 import shutil
 import struct
 import subprocess
@@ -108,6 +109,10 @@ class Code:
     def is_transfer(self, address):
         return self.operation(address)[0] in range(1, 8) or self.is_indirect(address)
 
+    def is_unrecorded(self, address):
+        """Whether an indirect call or jump has no record of where it goes."""
+        return self.is_indirect(address) and not self.is_jump_to_link(address) and not self.targets.get(address)
+
     def is_stop(self, address):
         return self.operation(address) in ((0, 12), (0, 13))
 
@@ -119,52 +124,79 @@ class Code:
         operation, special = self.operation(address)
         return operation == 3 or special == 9 or operation == 1 and self.words[address] >> 16 & 16 != 0
 
+    def returns(self, address):
+        """Whether a unit returns to the caller."""
+        return self.is_jump_to_link(address) and address + 4 in self.words and not self.is_stop(address + 4)
+
     def branch(self, address):
-        """Where a branch goes, and whether it calls. One that compares a register with itself has a single way."""
+        """Whether a branch may be taken, and whether it may not: not both, if it compares a register with itself."""
         word, first, second = self.words[address], self.words[address] >> 21 & 31, self.words[address] >> 16 & 31
-        target = address + 4 + 4 * ((word & 0xFFFF ^ 0x8000) - 0x8000)
         same = {1: first == 0, 4: first == second, 5: first == second, 6: first == 0, 7: first == 0}[word >> 26]
         takes = {1: second & 1 == 1, 4: True, 5: False, 6: True, 7: False}[word >> 26]
-        ways = [target, address + 8] if not same else [target] if takes else [address + 8]
-        return ways, word >> 26 == 1 and second >= 16 and target in ways
+        return not same or takes, not same or not takes
+
+    def target(self, address):
+        """Where a branch, J or JAL goes."""
+        word = self.words[address]
+        if word >> 26 in (2, 3):
+            return (address + 4) & 0xF0000000 | (word & 0x3FFFFFF) << 2
+        return address + 4 + 4 * ((word & 0xFFFF ^ 0x8000) - 0x8000)
 
     def ways(self, address):
-        """Where a unit goes on to, and which functions it calls; a call goes on after its slot."""
+        """Where a unit goes on to without a call, and which functions it calls. An indirect call without a record, which
+        the analyser refuses, is taken to come back."""
         if self.is_stop(address):
             return [], []
         if not self.is_transfer(address):
             return [address + 4], []
         if address + 4 not in self.words or self.is_stop(address + 4) or self.is_jump_to_link(address):
             return [], []
-        operation, special = self.operation(address)
-        if operation in (2, 3):
-            target = (address + 4) & 0xF0000000 | (self.words[address] & 0x3FFFFFF) << 2
-            return ([target], []) if operation == 2 else ([address + 8], [target])
-        if operation == 0:
+        taken, passed, behind = True, False, [address + 8]
+        if self.is_indirect(address):
             targets = sorted(self.targets.get(address, ()))
-            return (targets, []) if special == 8 else ([address + 8], targets)
-        ways, calls = self.branch(address)
-        return ([address + 8], [ways[0]]) if calls else (ways, [])
+            passed = self.links(address) and not targets
+        else:
+            targets = [self.target(address)]
+            if self.operation(address)[0] not in (2, 3):
+                taken, passed = self.branch(address)
+        gone = targets if taken else []
+        onward = behind if passed else []
+        return (onward, gone) if self.links(address) else (gone + onward, [])
 
 
 class Function:
-    """The units that a function reaches, with where each goes on to, and its loops: for each header its body."""
+    """The units that a function reaches, with where each goes on to, and its loops: for each header its body. `calls`
+    are the functions that it calls, once for each call, and `dead_ends` the calls that never come back."""
 
-    def __init__(self, code, entry):
-        self.entry, self.next, self.calls = entry, {}, []
+    def __init__(self, code, entry, returning):
+        self.entry, self.next, self.calls, self.dead_ends = entry, {}, [], []
         work = [entry]
         while work:
             address = work.pop()
             if address in self.next:
                 continue
-            self.next[address], called = code.ways(address) if address in code.words else ([], [])
+            ways, called = code.ways(address) if address in code.words else ([], [])
+            if called and returning.isdisjoint(called):
+                self.dead_ends.append(address)
+            elif called and address + 8 not in ways:
+                ways = ways + [address + 8]
+            self.next[address] = ways
             self.calls += called
-            work += self.next[address]
-        self.before = {unit: [] for unit in self.next}
+            work += ways
+        self.returns = any(code.returns(unit) for unit in self.next if unit in code.words)
+
+    @functools.cached_property
+    def before(self):
+        """For each unit those that go on to it."""
+        before = {unit: [] for unit in self.next}
         for unit, ways in self.next.items():
             for way in ways:
-                self.before[way].append(unit)
-        self.loops = {header: body for header in self.heads() if (body := self.body(header))}
+                before[way].append(unit)
+        return before
+
+    @functools.cached_property
+    def loops(self):
+        return {header: body for header in self.heads() if (body := self.body(header))}
 
     def heads(self):
         """The units to which some way goes back, in the order of a search in depth: all headers are among them."""
@@ -207,13 +239,18 @@ class Function:
 
 
 def functions(code, entry):
-    """All functions that the entry calls, directly or through others."""
-    found, work = {}, [entry]
-    while work:
-        address = work.pop()
-        if address not in found:
-            found[address] = Function(code, address)
-            work += found[address].calls
+    """All functions that the entry calls, directly or through others. If one turns out to return, those that call it are
+    looked at again."""
+    found, returning, callers, stale = {}, set(), {}, {entry}
+    while stale:
+        address = stale.pop()
+        function = found[address] = Function(code, address, returning)
+        for other in function.calls:
+            callers.setdefault(other, set()).add(address)
+        stale.update(set(function.calls) - found.keys())
+        if function.returns and address not in returning:
+            returning.add(address)
+            stale |= callers.get(address, set())
     return found
 
 

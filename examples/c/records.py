@@ -3,12 +3,14 @@
 
 usage: records.py ELF FUNCTION, as records.py out/sort.elf task
 
-It reads the code that the function reaches, and takes each call to come back. Its lines:
+It reads the code that the function reaches; a call comes back where a function that it calls can return. Its lines:
 
     loop A: N visits, by the record at B      the loop whose header is at A has this bound
     no record: the loop at A                  the analyser will refuse the file: no-bound
+    no record: the transfer at A              it will refuse the file: unknown-target
     target of A: F                            the indirect call or jump at A may go to F
     access at A: from X to below Y            the load or store at A stays in these bytes
+    dead end: the call at A                   no function that it calls can return, so no way goes on after it
     nothing: ..                               the record says nothing of the reached code
     fault: ..                                 the record before this line stands in a wrong place, or two disagree
     size: N contexts, M places                what the analyser makes of the code; it takes 16,384 and 65,536
@@ -32,7 +34,12 @@ class Report:
         for function in self.functions.values():
             for header, found in bounds(elf, self.code, function).items():
                 self.bounds.setdefault(header, []).append((function, found))
-        self.places = Places(elf, list(self.bounds) + [at for record in elf.records for at in record[1:3]])
+        self.dead_ends = {at for function in self.functions.values() for at in function.dead_ends}
+        self.unrecorded = {
+            at for function in self.functions.values() for at in function.next if self.code.is_unrecorded(at)
+        }
+        shown = [*self.bounds, *self.dead_ends, *self.unrecorded]
+        self.places = Places(elf, shown + [at for record in elf.records for at in record[1:3]])
         self.instructions = {
             at for function in self.functions.values() for unit in function.next
             for at in (unit, unit + 4) if at == unit or unit in self.code.words and self.code.is_transfer(unit)
@@ -60,6 +67,13 @@ class Report:
                         self.fault(f"the record at {self.places.text(first.address)} bounds it too, by {first.visits}")
                     if passes_by(function, header, bound.unit):
                         self.fault("the loop can turn without passing this record")
+
+    def tell_calls(self):
+        """The calls that don't come back, and the transfers of which nobody told where they go."""
+        for address in sorted(self.dead_ends):
+            self.tell(f"dead end: the call at {self.places.text(address)}")
+        for address in sorted(self.unrecorded):
+            self.tell(f"no record: the transfer at {self.places.text(address)}")
 
     def tell_others(self):
         """The targets and ranges, and the records that say nothing of the reached code."""
@@ -102,6 +116,7 @@ def main(path, name):
     entry = elf.address_of(name)
     report = Report(elf, entry)
     report.tell_loops()
+    report.tell_calls()
     report.tell_others()
     report.tell_size(entry)
     print("\n".join(report.lines))

@@ -5,7 +5,9 @@
 Newer versions name the option -one-insn-per-tb. Without `cpu` the trace is far shorter, but has no registers.
 """
 import itertools
+import os
 import re
+import stat
 
 SINGLE = re.compile(r"Trace 0: 0x[0-9a-f]+ \[[0-9a-f]+/([0-9a-f]+)/")
 
@@ -15,6 +17,15 @@ class Step:
 
     def __init__(self, address):
         self.address, self.registers = address, []
+
+
+def opened(path, program):
+    """The file of a trace. One that is older than the program may be the run of another build; a pipe has no age."""
+    file = open(path)
+    status = os.fstat(file.fileno())
+    if stat.S_ISREG(status.st_mode) and status.st_mtime_ns < os.stat(program).st_mtime_ns:
+        raise SystemExit(f"{path}: it is older than {program}, so it may be the run of another build")
+    return file
 
 
 def steps(lines):

@@ -35,26 +35,32 @@
 #define WCET_LOOP_(n, turns)                                                          \
     do {                                                                              \
         _Static_assert(WCET_IS_CONSTANT(turns), "WCET_LOOP: the number of turns is not a constant"); \
-        _Static_assert(WCET_CONSTANT(turns) >= 0 && WCET_CONSTANT(turns) < 0xFFFFFFFF, \
-                       "WCET_LOOP: the number of turns is not from 0 to 4294967294"); \
+        _Static_assert(WCET_WHOLE(turns) >= 0 && WCET_WHOLE(turns) < 0xFFFFFFFF &&    \
+                       WCET_WHOLE(turns) == WCET_CONSTANT(turns),                     \
+                       "WCET_LOOP: the number of turns is not a whole one from 0 to 4294967294"); \
         __asm__ volatile(WCET_KEPT(WCET_LABEL(n) "nop\n\t") WCET_RECORD(n, "1", "%0", "0") \
-                         : : "i"((unsigned)WCET_CONSTANT(turns) + 1));                \
+                         : : "i"((unsigned)WCET_WHOLE(turns) + 1));                   \
     } while (0)
 
 /* Whether an expression is a constant: only then is the middle operand a null pointer, and the type of all int *. */
 #define WCET_IS_CONSTANT(number) (sizeof(*(1 ? (void *)((long)(number) * 0L) : (int *)0)) == sizeof(int))
 
-/* The number that a constant is, and 0 for all others, which have a message of their own. */
-#define WCET_CONSTANT(number) ((long long)__builtin_choose_expr(WCET_IS_CONSTANT(number), (number), 0))
+/* A constant itself, and 0 for all others, which have a message of their own; and without what is behind its point. */
+#define WCET_CONSTANT(number) __builtin_choose_expr(WCET_IS_CONSTANT(number), (number), 0)
+#define WCET_WHOLE(number) ((long long)WCET_CONSTANT(number))
 
 /* Whether a type has a sign; the array's first byte and the one behind its last. */
 #define WCET_SIGNED(place) ((__typeof__(place))-1 < (__typeof__(place))1)
 #define WCET_BYTES(array) "i"(array), "i"((char *)(array) + sizeof(array))
 
+/* Whether something is an array: a pointer has the type of the address of its first item. */
+#define WCET_IS_ARRAY(array) !WCET_ALIKE(__typeof__(array), __typeof__(&(array)[0]))
+
 /* A load has a slot of one instruction on MIPS I. */
 #define WCET_LOAD(place, array) WCET_LOAD_(WCET_TEXT(__COUNTER__), place, array)
 #define WCET_LOAD_(n, place, array)                                                   \
     ({                                                                                \
+        _Static_assert(WCET_IS_ARRAY(array), "WCET_LOAD: a pointer does not tell how many bytes there are"); \
         __typeof__((place) + 0) wcet_value;                                           \
         __asm__ volatile(WCET_KEPT(WCET_LABEL(n)                                      \
                                    ".if %c2 == 4\n\tlw %0, %1\n\t"                    \
@@ -73,6 +79,7 @@
 #define WCET_STORE(place, array, value) WCET_STORE_(WCET_TEXT(__COUNTER__), place, array, value)
 #define WCET_STORE_(n, place, array, value)                                           \
     do {                                                                              \
+        _Static_assert(WCET_IS_ARRAY(array), "WCET_STORE: a pointer does not tell how many bytes there are"); \
         __typeof__(place) wcet_value = (value);                                       \
         __asm__ volatile(WCET_KEPT(WCET_LABEL(n)                                      \
                                    ".if %c2 == 4\n\tsw %1, %0\n\t"                    \
@@ -113,7 +120,16 @@
      (WCET_ALIKE(type, result(int)) || WCET_ALIKE(type, result(unsigned)) ||          \
       WCET_ALIKE(type, result(long)) || WCET_ALIKE(type, result(unsigned long)) ||    \
       WCET_ALIKE(type, result(void *)) || WCET_ALIKE(type, result(const void *)) ||   \
+      WCET_ALIKE(type, result(const __typeof__(*WCET_POINTER(argument)) *)) ||        \
       (WCET_ALIKE(type, result(__typeof__(argument))) && WCET_IS_WORD(__typeof__((argument) + 0)))))
+
+/* A pointer to something of a known type itself, and one to characters for all else. */
+#define WCET_POINTER(argument)                                                        \
+    __builtin_choose_expr(__builtin_classify_type(argument) == __builtin_classify_type((char *)0) && \
+                          !WCET_ALIKE(__typeof__((argument) + 0), void *) &&          \
+                          !WCET_ALIKE(__typeof__((argument) + 0), const void *),      \
+                          (argument), (char *)0)
+
 #define WCET_IS_WORD(type) (sizeof(type) <= 4 && !WCET_ALIKE(type, float))
 
 /* 16 bytes of the stack are the callee's, for its arguments. All registers that a callee may change are told to the
@@ -138,8 +154,8 @@
 /* How many targets there are; a look at the type, a record and the operand of each. */
 #define WCET_JOIN_(front, back) front##back
 #define WCET_JOIN(front, back) WCET_JOIN_(front, back)
-#define WCET_EIGHTH(a, b, c, d, e, f, g, h, count, ...) count
-#define WCET_COUNT(...) WCET_EIGHTH(__VA_ARGS__, 8, 7, 6, 5, 4, 3, 2, 1, 0)
+#define WCET_TWELFTH(a, b, c, d, e, f, g, h, i, j, k, l, count, ...) count
+#define WCET_COUNT(...) WCET_TWELFTH(__VA_ARGS__, MANY, MANY, MANY, MANY, 8, 7, 6, 5, 4, 3, 2, 1, 0)
 #define WCET_SAME_1(a) \
     _Static_assert(WCET_ALIKE(__typeof__(*(a)), wcet_type), "WCET_CALL: a target has another type than the function");
 #define WCET_SAME_2(a, ...) WCET_SAME_1(a) WCET_SAME_1(__VA_ARGS__)
@@ -149,6 +165,9 @@
 #define WCET_SAME_6(a, ...) WCET_SAME_1(a) WCET_SAME_5(__VA_ARGS__)
 #define WCET_SAME_7(a, ...) WCET_SAME_1(a) WCET_SAME_6(__VA_ARGS__)
 #define WCET_SAME_8(a, ...) WCET_SAME_1(a) WCET_SAME_7(__VA_ARGS__)
+#define WCET_SAME_MANY(...) _Static_assert(0, "WCET_CALL: there are more than eight targets");
+#define WCET_GOES_MANY(n) ""
+#define WCET_EACH_MANY(...) "i"(0)
 #define WCET_GOES_1(n) WCET_RECORD(n, "2", "%[wcet_t1]", "0")
 #define WCET_GOES_2(n) WCET_GOES_1(n) WCET_RECORD(n, "2", "%[wcet_t2]", "0")
 #define WCET_GOES_3(n) WCET_GOES_2(n) WCET_RECORD(n, "2", "%[wcet_t3]", "0")

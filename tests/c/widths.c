@@ -80,6 +80,27 @@ static const short *next(const short *place)
     return place + 1;
 }
 
+/* A pointer to constants takes an array too, and a pointer to what may change. */
+static int last(const char *text)
+{
+    return text[2];
+}
+
+static int greater(const int *two)
+{
+    return two[0] > two[1] ? two[0] : two[1];
+}
+
+static int (*const lasts[])(const char *) = {last};
+static int (*const greaters[])(const int *) = {greater};
+
+static int constants(int value)
+{
+    int two[2] = {value, 3};
+    return wrong(WCET_CALL(lasts[0], "abc", last), 'c') + wrong(WCET_CALL(greaters[0], two, greater), value) +
+           wrong(WCET_CALL(greaters[0], &two[0], greater), value);
+}
+
 static void (*const counts[])(void) = {count};
 static int (*const double_counts[])(void) = {count_twice};
 static signed char (*const halves_of[])(signed char) = {half};
@@ -96,5 +117,5 @@ static int others(int value)
 
 int task(void)
 {
-    return accesses(3) + calls(5) + others(200);
+    return accesses(3) + calls(5) + others(200) + constants(9);
 }

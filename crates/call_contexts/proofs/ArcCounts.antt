@@ -1,4 +1,5 @@
--- How many arcs the places so far have: each call leads to a context of its own, so that the calls are fewer than the contexts.
+-- How many arcs the places so far have: each call leads to a context of its own, so that the calls are fewer than
+-- the contexts.
 use Rattle.std.proofs.Common.{◌≡◌, ℕ, suc, ◌+◌, ◌*◌, ◌<◌, ◌≤◌, ◌^◌, inl, inr, List, [], ◌∷◌, ◌++◌, length, take, get_or, slice_get, All, AllPairs, Some, refl, ap, subst, arith, length-append}
 use Rattle.std.specs.List.{AllZip}
 use Rattle.std.specs.Prelude.{sum_by}

@@ -92,7 +92,8 @@ deeper-inner image entry loops nest done address at nearest round held other one
 deeper-inner image entry loops nest done address at nearest round held other one (inr same) =
     own-held image entry loops nest done address round other one same
 
--- The loop lies round the one that was the innermost so far: of two loops that share a unit, one holds the other's header.
+-- The loop lies round the one that was the innermost so far: of two loops that share a unit, one holds the other's
+-- header.
 outer-body : (image : Image) (entry : ℕ) (loops : List Loop) → IsNest image entry loops → (done address at : ℕ) →
     (nearest : IsNearest loops done address at) → (round : IsRound loops done address) → (Contains nearest.round.one.body round.one.header → ⊥) →
     (round.one.header ≡ nearest.round.one.header)

@@ -1,4 +1,5 @@
--- The numbers of loop instances, the scopes of places and the loop instances, as they are written one context after the other.
+-- The numbers of loop instances, the scopes of places and the loop instances, as they are written one context after
+-- the other.
 use Rattle.std.proofs.Common.{◌≡◌, ℕ, zero, suc, ◌+◌, ◌^◌, ◌<◌, ◌≤◌, ◌⊎◌, inl, inr, List, [], ◌∷◌, ◌++◌, length, map, slice_get, Option, Some, None, refl, sym, ap, subst, ◌∙◌, arith, length-append}
 use Rattle.std.specs.Prelude.{IfSome, option_map}
 use Rattle.std.proofs.lemmas.Bool.{cases_lt}

@@ -1,5 +1,5 @@
--- How many onward units the units of a function have in all: the targets that are recorded for indirect jumps are no more
--- than the records, and no more than the function's units for each jump; every other unit has at most three.
+-- How many onward units the units of a function have in all: the targets that are recorded for indirect jumps are no
+-- more than the records, and no more than the function's units for each jump; every other unit has at most three.
 use Rattle.std.proofs.Common.{◌≡◌, ℕ, suc, ◌+◌, ◌*◌, ◌<◌, ◌≤◌, ◌==◌, ◌⊎◌, inl, inr, Bool, true, false, cond, List, [], ◌∷◌, ◌++◌, length, map, filter, All, AllPairs, Contains, refl, ap, subst, ◌∙◌, arith, nat_le, length-append}
 use Rattle.std.specs.Prelude.{sum_by, count_by}
 use Rattle.std.proofs.lemmas.Bool.{cases_lt}

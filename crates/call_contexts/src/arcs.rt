@@ -2,7 +2,8 @@
 
 ghost use Rattle.std.specs.Prelude.{◌≡◌, ◌+◌, ◌<◌, ◌≤◌, ◌^◌, ◌++◌, ℕ, List, true, length, All, IfOk, OnOk};
 ghost use Rattle.std.specs.List.{AllZip};
-ghost use Rattle.call_contexts.specs.Arcs.{AreAllArcs, AreTargets, HasCallTo, HasReturnTo, IsCallTo, IsFirstPlace, IsReturnTo, arcs_from, stays, ways_of};
+ghost use Rattle.call_contexts.specs.Arcs.{AreAllArcs, AreTargets, HasCallTo, HasReturnTo, IsCallTo, IsFirstPlace};
+ghost use Rattle.call_contexts.specs.Arcs.{IsReturnTo, arcs_from, stays, ways_of};
 ghost use Rattle.call_contexts.specs.Layout.{IsLaidOut, IsSpot};
 ghost use Rattle.call_contexts.specs.Spots.{HasNumber, IsNumberAt, IsOfProgram};
 

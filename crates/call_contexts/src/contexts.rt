@@ -1,10 +1,12 @@
 //! The contexts of a program, made breadth first, and the numbers of their places.
 
-ghost use Rattle.std.specs.Prelude.{◌≡◌, ◌≤◌, ◌<◌, ◌++◌, ℕ, List, All, Contains, IfOk, OnOk, Some, length, map, slice_get, sum_by};
+ghost use Rattle.std.specs.Prelude.{◌≡◌, ◌≤◌, ◌<◌, ◌++◌, ℕ, List, All, Contains, IfOk, OnOk, Some, length, map};
+ghost use Rattle.std.specs.Prelude.{slice_get, sum_by};
 ghost use Rattle.step_table.specs.Numbers.{number_of};
 ghost use Rattle.step_table.specs.Table.{IsWithin};
 ghost use Rattle.call_contexts.specs.Counting.{IsTotalOfFirst, ones_for, steps_of, steps_in};
-ghost use Rattle.call_contexts.specs.Expansion.{AreBases, AreExpanded, AreReady, HasCalls, RiseCalls, SumsUp, context_of};
+ghost use Rattle.call_contexts.specs.Expansion.{AreBases, AreExpanded, AreReady, HasCalls, RiseCalls, SumsUp};
+ghost use Rattle.call_contexts.specs.Expansion.{context_of};
 ghost use Rattle.call_contexts.specs.Sizes.{most_contexts, most_places};
 ghost use Rattle.call_contexts.specs.declared.calls.Called.{Called};
 

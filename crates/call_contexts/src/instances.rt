@@ -23,7 +23,8 @@ pub struct Instances {
     pub scopes: Vec<u32>,
 }
 
-ghost use Rattle.call_contexts.specs.Instances.{AddsInstances, AreInstances, HasScopes, IsInstanceBy, AreRoundsOf, IsLayoutOf, OfLayout};
+ghost use Rattle.call_contexts.specs.Instances.{AddsInstances, AreInstances, HasScopes, IsInstanceBy, AreRoundsOf};
+ghost use Rattle.call_contexts.specs.Instances.{IsLayoutOf, OfLayout};
 
 /// Where a context's places and loop instances begin, and the scope round it.
 #[derive(Clone, Copy, Debug)]

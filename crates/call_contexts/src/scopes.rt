@@ -1,7 +1,8 @@
 //! The scopes of the places of a program's contexts.
 
 ghost use Rattle.std.specs.Prelude.{◌≡◌, ◌+◌, ◌^◌, ◌<◌, ◌++◌, ℕ, All, Some, length, map, slice_get, IfOk, IfSome, OnOk};
-ghost use Rattle.call_contexts.specs.Instances.{AreFirsts, AreScopes, IsRoundContext, scope_by, AreRoundsFor, IsLaidFor, IsLayoutOf, OfRounds};
+ghost use Rattle.call_contexts.specs.Instances.{AreFirsts, AreScopes, IsRoundContext, scope_by, AreRoundsFor};
+ghost use Rattle.call_contexts.specs.Instances.{IsLaidFor, IsLayoutOf, OfRounds};
 
 use crate::around::Rounds;
 use crate::layout::Layout;

@@ -3,7 +3,8 @@
 ghost use Rattle.std.specs.Prelude.{◌≡◌, ◌<◌, ◌+◌, ℕ, All, IfOk, length, sum_by};
 ghost use Rattle.step_table.specs.Numbers.{number_of};
 ghost use Rattle.step_table.specs.Table.{IsWithin};
-ghost use Rattle.call_contexts.specs.Counting.{AreToldAll, IsAcyclic, IsFinished, IsToldFirst, ones_for, steps_in, steps_of, told_of, unit_counts};
+ghost use Rattle.call_contexts.specs.Counting.{AreToldAll, IsAcyclic, IsFinished, IsToldFirst, ones_for, steps_in};
+ghost use Rattle.call_contexts.specs.Counting.{steps_of, told_of, unit_counts};
 
 use crate::calls::{Called, call_lists};
 use std::alloc::{AllocError, Global};

@@ -1,11 +1,14 @@
 mod CertificateLines
+mod CheckedProgram
 mod Decimal
 mod Drafting
 mod Fitting
+mod Found
 mod LeafLemmas
 mod Lists
 mod Prefixes
 mod Progress
 mod Sheets
 mod Signs
+mod Validity
 mod WeightLemmas

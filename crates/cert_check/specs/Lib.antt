@@ -6,3 +6,5 @@ pub mod Leaves
 pub mod Order
 pub mod Drafts
 pub mod Faults
+pub mod Rejects
+pub mod Walks

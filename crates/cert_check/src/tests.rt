@@ -1,6 +1,7 @@
 //! Certificates' texts that are read, refused and printed back.
 
 mod back;
+mod checks;
 mod cuts;
 mod limits;
 

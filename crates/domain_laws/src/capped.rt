@@ -4,7 +4,7 @@ ghost use Rattle.std.specs.Prelude.{◌≡◌, ◌<◌, ◌^◌, [], Some, IfOk,
 ghost use Rattle.std.specs.Option.{option_map};
 ghost use Rattle.domain_laws.specs.Consequences.{joined_widening};
 ghost use Rattle.domain_laws.specs.SetLaws.{capped_lattice, capped_ranked};
-ghost use Rattle.domain_laws.specs.Sets.{Climbs, added, all_added, capped_has, capped_joined, capped_leq, capped_rank, is_in, put, within};
+ghost use Rattle.domain_laws.specs.Sets.{AreFew, Climbs, added, all_added, capped_has, capped_joined, capped_leq, capped_rank, is_in, put, within};
 
 use crate::lattice::{Height, Lattice, Widen};
 use std::alloc::{AllocError, Global};
@@ -78,7 +78,9 @@ impl Capped {
 
     /// Adds an item. A set that would then have as many items as its limit becomes full, and full stays full.
     pub fn add(&mut self, item: u32) -> Result<(), AllocError>
-        ensures { OnOk result (self.new ≡ added item self.old) }
+        ensures set { OnOk result (self.new ≡ added item self.old) }
+        ensures limit { self.new.limit ≡ self.old.limit }
+        ensures few { AreFew self.new.limit self.new.items }
     {
         let Some(mut items) = self.items.take() else {
             return Ok(());

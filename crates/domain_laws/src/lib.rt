@@ -20,6 +20,7 @@ mod transfer;
 mod uncertain;
 
 pub use capped::Capped;
+pub use entries::{put_in, value_in};
 pub use keyed::Keyed;
 pub use lattice::{Height, Lattice, Widen};
 pub use transfer::Transfer;

@@ -38,8 +38,8 @@ AreGoing m (n ∷ later) = (whole_step m ≡ record { outcome = Going; machine =
 abbrev pub units_along : Machine → List Machine → List RunUnit
 units_along m machines = units_of (code_at m.values.regions) m.values (values_of machines)
 
--- The units that a run visited: those that it did, and the one in which it trapped. (A trap changes nothing, so that the
--- machine stays behind that unit.)
+-- The units that a run visited: those that it did, and the one in which it trapped. (A trap changes nothing, so that
+-- the machine stays behind that unit.)
 abbrev pub units_visited : Stop → Machine → List Machine → List RunUnit
 units_visited (stop.Trap kind address) m machines = units_along m (machines ++ last_machine m machines ∷ [])
 units_visited stop.Returned m machines = units_along m machines

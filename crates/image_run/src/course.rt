@@ -39,7 +39,8 @@ pub struct Course {
 fn first_machine(alloc: Global, program: &Program) -> Result<Machine, AllocError>
     requires { IsRunnable program.now }
     ensures machine { IfOk result (λ m. m ≡ machine_of program.now) }
-    ensures start { IfOk result (λ m. IsMachineStart program.now.image.now program.now.profile.now program.now.entry m) }
+    ensures start { IfOk result (λ m.
+        IsMachineStart program.now.image.now program.now.profile.now program.now.entry m) }
 {
     let profile = program.profile;
     let zero = Regs {

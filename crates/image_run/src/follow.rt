@@ -5,7 +5,8 @@ ghost use Rattle.std.specs.Bool.{OnFalse, OnTrue};
 ghost use Rattle.cache_config.specs.Limits.{most_steps};
 ghost use Rattle.flow_net.specs.Numbers.{IsNumberOf, item_at};
 ghost use Rattle.flow_net.specs.declared.net.Place.{Place};
-ghost use Rattle.image_run.specs.Course.{Goes, GoesBackFrom, IsBackFrom, IsCourse, IsJudged, IsRunnable, StaysInRanges, counted};
+ghost use Rattle.image_run.specs.Course.{Goes, GoesBackFrom, IsBackFrom, IsCourse, IsJudged, IsRunnable};
+ghost use Rattle.image_run.specs.Course.{StaysInRanges, counted};
 ghost use Rattle.image_run.specs.Road.{IsRoad, IsSpotAt, site_by};
 ghost use Rattle.image_run.specs.declared.report.Verdict.{Verdict};
 

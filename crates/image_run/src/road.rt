@@ -173,8 +173,8 @@ impl Road {
         requires place { IsNumberOf net.now.places place }
         ensures some { IfSome result (λ to. (at : Place) → item_at place net.now.places ≡ Some at →
             IsPlaceBehind net.now (linking_of link at.address next) at.context next to) }
-        ensures none { IfNone result ((at : Place) → item_at place net.now.places ≡ Some at → (number : ℕ) (arc : NetArc) →
-            item_at number net.now.arcs ≡ Some arc → arc.from ≡ place →
+        ensures none { IfNone result ((at : Place) → item_at place net.now.places ≡ Some at →
+            (number : ℕ) (arc : NetArc) → item_at number net.now.arcs ≡ Some arc → arc.from ≡ place →
             IsPlaceBehind net.now (linking_of link at.address next) at.context next arc.to → ⊥) }
     {
         let from = net.places.as_slice()[place as usize - 1];

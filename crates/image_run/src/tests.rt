@@ -1,4 +1,5 @@
-//! Small programs run whole, with their cycles and tallies worked out by hand, and one run for each rule that is broken.
+//! Small programs run whole, with their cycles and tallies worked out by hand, and one run for each rule that is
+//! broken.
 
 ghost use Rattle.std.specs.Prelude.{◌<◌, ◌^◌, IfOk, length};
 ghost use Rattle.flow_net.specs.Nested.{IsNested};
@@ -103,7 +104,8 @@ fn run_of(
     Ok(run_image(alloc, &net, &image, &profile, START)?)
 }
 
-/// Five turns of a loop: `addiu $8, $0, 5`, then `addiu $8, $8, -1`, `bne $8, $0` back and `nop`, then `jr $31` and `nop`.
+/// Five turns of a loop: `addiu $8, $0, 5`, then `addiu $8, $8, -1`, `bne $8, $0` back and `nop`, then `jr $31` and
+/// `nop`.
 const LOOP: [u32; 6] = [0x2408_0005, 0x2508_FFFF, 0x1500_FFFE, 0, 0x03E0_0008, 0];
 
 const FIVE_TURNS: [Record; 1] = [(1, 0x0040_0004, 5, 0)];
@@ -246,8 +248,8 @@ fn calls_a_loop_over_a_table(rt: HostRuntime) -> Result<(), Fail> {
 
 #[test]
 fn goes_elsewhere(rt: HostRuntime) -> Result<(), Fail> {
-    // `addiu $8, $0, 0x10`, `lui $9, 0x40`, `addu $8, $8, $9`, `jr $8`, `nop`, and twice `jr $31`, `nop`: the jump goes to
-    // 00400010, its own slot.
+    // `addiu $8, $0, 0x10`, `lui $9, 0x40`, `addu $8, $8, $9`, `jr $8`, `nop`, and twice `jr $31`, `nop`: the jump
+    // goes to 00400010, its own slot.
     let jump = [
         0x2408_0010,
         0x3C09_0040,

@@ -40,7 +40,8 @@ not-low crude all same above = omega (arith, same, above)
 pub is-low : (crude all : ℕ) → crude ≡ in_128 all → crude ≤ crude_limit → all ≤ crude_limit
 is-low crude all same below = omega (arith, same, below)
 
--- A table of prices, a crude bound that is kept with 128 bits and isn't above the limit: the turns of each place are low.
+-- A table of prices, a crude bound that is kept with 128 bits and isn't above the limit: the turns of each place
+-- are low.
 pub low-by : (net : Net) (price : ℕ → ℕ) (prices read : List ℕ) (crude : ℕ) → prices ≡ numbered price (length net.places) →
     All (λ (p : ℕ). 1 ≤ p) prices → read ≡ prices → IsCrude net read crude → crude ≤ crude_limit → AreLow net
 low-by net price prices read crude known priced same is low =

@@ -59,3 +59,5 @@ pub mod PlaceCycles
 pub mod WalkCounts
 pub mod StagesCheckable
 pub mod PlainProgram
+pub mod HitForm
+pub mod Staged

@@ -14,7 +14,7 @@ use Rattle.flow_net.specs.declared.letter.Level2.{Level2}
 use Rattle.flow_net.specs.declared.net.Access.{Access}
 use Rattle.flow_net.specs.declared.net.Net.{Net}
 use Rattle.ipet_program.specs.Costs.{first_stage}
-use Rattle.ipet_program.specs.Programs.{HasRows, IsRowOf, chain_length}
+use Rattle.age_model.specs.Classes.{HasRows, IsRowOf, chain_length}
 use Rattle.ipet_program.specs.Stages.{further_stages, stage_behind, stages_by, stages_from}
 use Rattle.ipet_program.specs.declared.program.Stage.{Stage}
 use Rattle.lru_concrete.specs.Chains.{Held, Visited, levels_of}

@@ -1,4 +1,5 @@
--- What a place costs whenever it is come to: its unit by itself, and the first stages of the accesses that are made there.
+-- What a place costs whenever it is come to: its unit by itself, and the first stages of the accesses that are made
+-- there.
 use Rattle.std.proofs.Common.{◌≡◌, ℕ, zero, suc, ◌+◌, ◌<◌, ◌≤◌, List, [], ◌∷◌, ◌++◌, length, Option, Some, None, refl, sym, ap, ◌∙◌, subst, arith}
 use Rattle.std.specs.Prelude.{sum_by}
 use Rattle.std.proofs.lemmas.List.Sums.{sum_by-cons}

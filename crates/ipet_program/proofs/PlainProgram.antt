@@ -22,7 +22,8 @@ use Rattle.net_model.specs.Units.{content_at}
 use Rattle.net_model.specs.declared.unit.Content.{Content}
 use Rattle.net_model.specs.declared.unit.Content.TheVariants.{Unit as Stands, Fault}
 use Rattle.ipet_program.specs.Costs.{all_stages, content_cost, content_full, first_stage, first_stages}
-use Rattle.ipet_program.specs.Programs.{HasRows, IsFlowProgram, IsProgramOf, IsRowOf, arc_caps, arc_values, chain_length, crude_of, full_at, full_price, place_price, price_at}
+use Rattle.age_model.specs.Classes.{HasRows, IsRowOf, chain_length}
+use Rattle.ipet_program.specs.Programs.{IsFlowProgram, IsProgramOf, arc_caps, arc_values, crude_of, full_at, full_price, place_price, price_at}
 use Rattle.ipet_program.specs.Rows.{rows_of}
 use Rattle.ipet_program.specs.Scopes.{turns_at}
 use Rattle.ipet_program.specs.StageRows.{stage_rows}

@@ -1,5 +1,5 @@
--- How often an access goes on to its further stages in a run: at most as often as to the stage before, and as its place is
--- come to.
+-- How often an access goes on to its further stages in a run: at most as often as to the stage before, and as its
+-- place is come to.
 use Rattle.std.proofs.Common.{◌≡◌, ℕ, zero, suc, ◌+◌, ◌-◌, ◌<◌, ◌≤◌, ◌==◌, ◌&&◌, not, Bool, true, false, cond, List, [], ◌∷◌, ◌++◌, All, Option, Some, None, refl, sym, ap, ◌∙◌, subst, inl, inr, arith, true≢false}
 use Rattle.std.specs.Prelude.{count_by, nat_le}
 use Rattle.std.proofs.lemmas.Bool.{cases_Bool, eqb-true}

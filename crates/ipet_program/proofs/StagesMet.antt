@@ -25,7 +25,7 @@ use Rattle.ipet_program.specs.Counts.{IsMet, counts_of, row_sum}
 use Rattle.ipet_program.specs.Rows.{comes_to, one_if, term_of, terms_of}
 use Rattle.ipet_program.specs.StageRows.{at_most_arcs, chain_row, enters_by, first_row, rows_for, stage_rows, zero_row, zero_rows}
 use Rattle.ipet_program.specs.Stages.{always_hits, firsts_of, from_scope, never_arrives, stage_behind, stages_by, stages_from, stops_at}
-use Rattle.ipet_program.specs.Walked.{TableHolds}
+use Rattle.age_model.specs.Classes.{TableHolds}
 use Rattle.ipet_program.specs.declared.program.Row.{Row}
 use Rattle.ipet_program.specs.declared.program.Stage.{Stage}
 use Rattle.ipet_program.proofs.Entries.{enters_at, inner-entry, walk-enters}

@@ -7,7 +7,7 @@ use Rattle.std.proofs.lemmas.List.Sums.{sum_by-cons}
 use Rattle.age_model.specs.Moves.{visit_latency}
 use Rattle.cache_config.specs.Instructions.{Costs, stages_through}
 use Rattle.flow_net.specs.declared.letter.Level2.{Level2}
-use Rattle.ipet_program.specs.Programs.{chain_length}
+use Rattle.age_model.specs.Classes.{chain_length}
 use Rattle.lru_concrete.specs.Chains.{Held, Went, chain, finds_in, goes, latencies, levels_of, onward, serves, touch_in}
 use Rattle.lru_concrete.specs.declared.level.Level.{Level}
 use Rattle.lru_concrete.specs.declared.level.Side.{Side}

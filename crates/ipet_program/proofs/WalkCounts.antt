@@ -13,11 +13,12 @@ use Rattle.flow_net.specs.Numbers.{item_at}
 use Rattle.flow_net.specs.declared.letter.ClassTable.{ClassTable}
 use Rattle.flow_net.specs.declared.net.Net.{Net}
 use Rattle.ipet_program.specs.Counts.{IsFeasible, IsMet, counts_of, cycles_along, path_cost, value_from, value_of}
-use Rattle.ipet_program.specs.Programs.{HasRows, IsFlowProgram, arc_value, arc_values, place_price}
+use Rattle.age_model.specs.Classes.{HasRows, TableHolds}
+use Rattle.ipet_program.specs.Programs.{IsFlowProgram, arc_value, arc_values, place_price}
 use Rattle.ipet_program.specs.Rows.{rows_of}
 use Rattle.ipet_program.specs.StageRows.{stage_rows}
 use Rattle.ipet_program.specs.Stages.{further_stages}
-use Rattle.ipet_program.specs.Walked.{AreWalkCounts, CountsWalks, IsWholeWalk, TableHolds, anywhere, place_own, walk_cycles}
+use Rattle.ipet_program.specs.Walked.{AreWalkCounts, CountsWalks, IsWholeWalk, anywhere, place_own, walk_cycles}
 use Rattle.ipet_program.specs.declared.program.Program.{Program}
 use Rattle.ipet_program.specs.declared.program.Stage.{Stage}
 use Rattle.net_model.specs.Accesses.{accesses_from}

@@ -78,9 +78,9 @@ abbrev pub goes_on_to : Option Stage → (access caches : ℕ) (hit : Bool) → 
 goes_on_to None access caches hit = false
 goes_on_to (Some stage) access caches hit = (access == stage.access) && misses stage.level caches hit
 
--- Whether what the run does counts for a column. The first columns are those of the arcs, so many of them: the run takes
--- the arc of that number. Then come those of the further stages: an access goes on to the stage. (The first stage of an
--- access has its latency in the value of the arc to its place.)
+-- Whether what the run does counts for a column. The first columns are those of the arcs: the run takes the arc of
+-- that number. Then come those of the further stages: an access goes on to the stage. (The first stage of an access
+-- has its latency in the value of the arc to its place.)
 abbrev pub counts_for : (arcs : ℕ) → List Stage → (column : ℕ) → Moment → Bool
 counts_for arcs stages column (Takes arc) = arc == column
 counts_for arcs stages column (Makes access address caches hit) =

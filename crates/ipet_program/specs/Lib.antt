@@ -15,6 +15,8 @@ pub mod Shown
 pub mod Certificates
 pub mod Tables
 pub mod StageTables
+pub mod Forms
 pub mod Faults
 pub mod Forward
 pub mod Walked
+pub mod Staged

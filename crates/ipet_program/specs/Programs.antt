@@ -1,17 +1,10 @@
 -- The program of a net, its crude bound, and the limits that a program keeps.
 use Rattle.std.specs.Prelude.{◌≡◌, ℕ, suc, ◌+◌, ◌-◌, ◌*◌, ◌^◌, ◌<◌, ◌≤◌, ◌==◌, ℤ, pos, negsuc, List, [], ◌++◌, length, map, All, Option, Some, None, if◌then◌else◌}
-use Rattle.std.specs.List.{AllZip}
-use Rattle.cache_config.specs.Chains.{side_of}
 use Rattle.cache_config.specs.Instructions.{costs_of}
 use Rattle.cache_config.specs.declared.profile.Profile.{Profile}
 use Rattle.elf_mips.specs.declared.image.Image.{Image}
 use Rattle.flow_net.specs.Numbers.{item_at, IsNumberOf}
-use Rattle.flow_net.specs.Scopes.{Holds}
-use Rattle.flow_net.specs.declared.letter.Class.{Class}
-use Rattle.flow_net.specs.declared.letter.Class.TheVariants.{First}
 use Rattle.flow_net.specs.declared.letter.ClassTable.{ClassTable}
-use Rattle.flow_net.specs.declared.letter.Level2.{Level2}
-use Rattle.flow_net.specs.declared.net.Access.{Access}
 use Rattle.flow_net.specs.declared.net.Net.{Net}
 use Rattle.flow_net.specs.declared.net.NetArc.{NetArc}
 use Rattle.flow_net.specs.declared.net.Place.{Place}
@@ -24,18 +17,9 @@ use Rattle.ipet_program.specs.Sums.{numbered, sum_to}
 use Rattle.ipet_program.specs.declared.program.Program.{Program}
 use Rattle.ipet_program.specs.declared.program.Row.{Row}
 use Rattle.ipet_program.specs.declared.program.Stage.{Stage}
-use Rattle.lru_concrete.specs.Chains.{chain}
-use Rattle.lru_concrete.specs.declared.level.Level.{Level}
-use Rattle.lru_concrete.specs.declared.level.Side.{Side}
-use Rattle.net_model.specs.Accesses.{kind_of}
 use Rattle.net_model.specs.Units.{content_at}
 use Rattle.net_model.specs.declared.unit.CodeUnit.{CodeUnit}
 use Rattle.net_model.specs.declared.unit.Content.TheVariants.{Unit as Stands}
-
--- How many caches an access of a side goes through.
-abbrev pub chain_length : List Level → Option Side → ℕ
-chain_length levels None = 0
-chain_length levels (Some side) = length (chain side levels)
 
 -- An arc has the value of the place that it goes to; 0 costs nothing.
 abbrev pub arc_value : (ℕ → ℕ) → Option NetArc → ℤ
@@ -116,20 +100,6 @@ pub record IsUnitAt (image : Image) (address : ℕ) : Type 0 where
 -- Each place of the net stands for such a unit.
 abbrev pub FitsImage : Image → Net → Type 0
 FitsImage image net = All (λ (place : Place). IsUnitAt image place.address) net.places
-
--- A row of the class table has an entry for each cache of its access's chain, and a first miss names a scope that holds
--- the access's place.
-abbrev pub NamesHolding : Net → (place : ℕ) → Class → Type 0
-NamesHolding net place (First scope) = Holds net scope place
-NamesHolding net place class = Unit {0}
-
-pub record IsRowOf (net : Net) (levels : List Level) (access : Access) (row : List Level2) : Type 0 where
-  pub chain : length row ≡ chain_length levels (side_of (kind_of access.role))
-  pub firsts : All (λ (entry : Level2). NamesHolding net access.place entry.class) row
-
--- The class table has such a row for each access.
-abbrev pub HasRows : Net → List Level → ClassTable → Type 0
-HasRows net levels classes = AllZip (IsRowOf net levels) net.accesses classes.rows
 
 -- The numbers of a row keep the limits under which sums over counts fit 128 bits.
 pub data IsSmall : ℤ → Type 0 where

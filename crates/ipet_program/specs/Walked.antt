@@ -1,5 +1,6 @@
 -- What is known of the moments of a run, from which its counts follow, and what these are.
 use Rattle.std.specs.Prelude.{◌≡◌, ℕ, ◌+◌, pos, List, length, Option, Some, None}
+use Rattle.age_model.specs.Classes.{TableHolds}
 use Rattle.age_model.specs.Moves.{Moves, latencies_along}
 use Rattle.cache_config.specs.Instructions.{Costs, costs_of}
 use Rattle.cache_config.specs.declared.profile.Profile.{Profile}
@@ -8,7 +9,6 @@ use Rattle.flow_net.specs.Numbers.{item_at}
 use Rattle.flow_net.specs.Paths.{IsRunPath}
 use Rattle.flow_net.specs.Visits.{KeepsBounds, targets_along}
 use Rattle.flow_net.specs.declared.letter.ClassTable.{ClassTable}
-use Rattle.flow_net.specs.declared.letter.Level2.{Level2}
 use Rattle.flow_net.specs.declared.net.Net.{Net}
 use Rattle.flow_net.specs.declared.net.Place.{Place}
 use Rattle.ipet_program.specs.Costs.{own_cost, slot_cost}
@@ -17,7 +17,6 @@ use Rattle.ipet_program.specs.declared.program.Program.{Program}
 use Rattle.lru_concrete.specs.Chains.{Held, levels_of}
 use Rattle.lru_concrete.specs.declared.level.Level.{Level}
 use Rattle.net_model.specs.Accesses.{accesses_from}
-use Rattle.net_model.specs.Claims.{ClassHolds, LetterHolds}
 use Rattle.net_model.specs.Moments.{Moment, arcs_of}
 use Rattle.net_model.specs.Net.{HasUnits}
 use Rattle.net_model.specs.Units.{content_at}
@@ -25,15 +24,8 @@ use Rattle.net_model.specs.Walks.{IsWalk}
 use Rattle.net_model.specs.declared.unit.Content.{Content}
 use Rattle.net_model.specs.declared.unit.Content.TheVariants.{Unit as Stands, Fault}
 
--- What a class table says of each access at each cache of its chain holds of these moments: the letter and the class.
-abbrev pub TableHolds : Net → ClassTable → List Moment → Type 0
-TableHolds net classes moments =
-    (access level : ℕ) (row : List Level2) (entry : Level2) → item_at access classes.rows ≡ Some row →
-    item_at level row ≡ Some entry →
-    LetterHolds access level entry.letter moments × ClassHolds net access level entry.class moments
-
--- Moments of a run whose entry has returned: a walk from arc 1 to an arc to 0 that keeps the bounds of the loops, on which
--- each access visits what caches of these levels make it visit.
+-- Moments of a run whose entry has returned: a walk from arc 1 to an arc to 0 that keeps the bounds of the loops, on
+-- which each access visits what caches of these levels make it visit.
 pub record IsWholeWalk (net : Net) (levels : List Level) (range : ℕ → ℕ → Type 0) (moments : List Moment) : Type 0 where
   pub walk : IsWalk net range moments
   pub path : IsRunPath net.arcs (arcs_of moments) 0
@@ -54,8 +46,8 @@ own_at profile image (Some place) = content_own (costs_of profile) (content_at i
 abbrev pub place_own : Profile → Image → Net → ℕ → ℕ
 place_own profile image net number = own_at profile image (item_at number net.places)
 
--- The cycles of a run that does these things: those of the units at the places that it comes to, and the latencies of all
--- visits of its accesses.
+-- The cycles of a run that does these things: those of the units at the places that it comes to, and the latencies of
+-- all visits of its accesses.
 abbrev pub walk_cycles : Profile → Image → Net → List Moment → ℕ
 walk_cycles profile image net moments =
     cycles_along (place_own profile image net) net.arcs moments

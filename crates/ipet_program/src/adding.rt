@@ -3,7 +3,8 @@
 ghost use Rattle.std.specs.Prelude.{◌≡◌, ◌≤◌, ◌+ℤ◌, ◌*ℤ◌, length, pos, All, [], ◌∷◌, Some, IfSome, IfNone};
 ghost use Rattle.std.specs.Bool.{OnFalse, OnTrue};
 ghost use Rattle.flow_net.specs.Numbers.{IsNumberOf};
-ghost use Rattle.ipet_program.specs.Adding.{AreTaken, Fit, HaveRoom, IsTaken, IsWeightTaken, MayTake, MayTakeAll, MayTakeWeight, terms_parts};
+ghost use Rattle.ipet_program.specs.Adding.{AreTaken, Fit, HaveRoom, IsTaken, IsWeightTaken, MayTake, MayTakeAll};
+ghost use Rattle.ipet_program.specs.Adding.{MayTakeWeight, terms_parts};
 ghost use Rattle.ipet_program.specs.Leaves.{FitFrom, all_rows, cut_row};
 
 use crate::leaf::{Side2, Weight};
@@ -22,7 +23,8 @@ fn with_product(sum: i128, times: i128, factor: i128) -> Option<i128>
 /// fit. A column that the program hasn't has no sum.
 fn add_term(sums: &mut [i128], columns: u32, times: i128, term: Term) -> bool
     requires { columns ≤ length sums.old }
-    ensures added { OnTrue result (HaveRoom columns sums.old sums.new (λ column. terms_parts column times (term ∷ []))) }
+    ensures added { OnTrue result (HaveRoom columns sums.old sums.new
+        (λ column. terms_parts column times (term ∷ []))) }
     ensures wide { OnFalse result (Fit columns sums.old (λ column. terms_parts column times (term ∷ [])) → ⊥) }
 {
     if term.column == 0 || term.column > columns {

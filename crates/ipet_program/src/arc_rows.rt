@@ -56,7 +56,8 @@ fn add_entering(net: &Net, rows: &mut [Row]) -> Result<(), AllocError>
     requires nested { IsNested net.now }
     requires few { length net.now.arcs ≤ 2 ^ 25 }
     requires none { rows.old ≡ numbered (entering_row net.now 0) (length net.now.loops) }
-    ensures rows { OnOk result (rows.new ≡ numbered (entering_row net.now (length net.now.arcs)) (length net.now.loops)) }
+    ensures rows { OnOk result (rows.new
+        ≡ numbered (entering_row net.now (length net.now.arcs)) (length net.now.loops)) }
 {
     let arcs = net.arcs.as_slice();
     for index in 0..arcs.len() {

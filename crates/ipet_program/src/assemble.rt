@@ -3,7 +3,9 @@
 ghost use Rattle.std.specs.Prelude.{◌≡◌, ◌*◌, ◌≤◌, ◌<◌, ◌^◌, All, IfErr, IfOk, length};
 ghost use Rattle.flow_net.specs.Nested.{IsNested};
 ghost use Rattle.ipet_program.specs.Faults.{TellsTooLarge};
-ghost use Rattle.ipet_program.specs.Programs.{FitsImage, HasRows, IsCheckable, IsFlowProgram, full_price};
+ghost use Rattle.age_model.specs.Classes.{HasRows};
+ghost use Rattle.ipet_program.specs.Programs.{FitsImage, IsCheckable, IsFlowProgram, full_price};
+ghost use Rattle.ipet_program.specs.Staged.{IsStagedFor};
 ghost use Rattle.ipet_program.specs.Walked.{CountsWalks};
 ghost use Rattle.ipet_program.specs.Tables.{AreLow, AreTurns, HasParts, IsPrice};
 
@@ -54,9 +56,9 @@ fn program_of(
     })
 }
 
-/// The program of a net and its classes under a profile: a column for each arc and for each further stage of an access, a
-/// row for the entry, for each place and for each loop instance, and the rows of the stages, in time in proportion to
-/// the program and to the loops round the net's places.
+/// The program of a net and its classes under a profile: a column for each arc and for each further stage of an
+/// access, a row for the entry, for each place and for each loop instance, and the rows of the stages, in time in
+/// proportion to the program and to the loops round the net's places.
 ///
 /// Each place stands for a unit of the image, and costs that unit's cycles with the first stage of each access; a stage
 /// costs its latency. It is refused where the crude bound, the sum of what all places cost with all stages, taken as
@@ -76,6 +78,8 @@ pub fn build(
     ensures program { IfOk result (IsFlowProgram net.now classes.now profile.now image.now) }
     // A run whose classes hold has feasible counts, and their value is its cycles.
     ensures counted { IfOk result (CountsWalks net.now classes.now profile.now image.now) }
+    // Whatever the classes are, it is a plain part with stages in the order of their columns.
+    ensures staged { IfOk result (IsStagedFor net.now profile.now image.now) }
     ensures checkable { IfOk result IsCheckable }
     ensures too_large { IfErr result (TellsTooLarge net.now (full_price profile.now image.now net.now)) }
 {

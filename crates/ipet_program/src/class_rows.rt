@@ -5,7 +5,7 @@ ghost use Rattle.std.specs.Bool.{OnTrue};
 ghost use Rattle.cache_config.specs.Chains.{side_of};
 ghost use Rattle.flow_net.specs.Numbers.{IsNumberOf};
 ghost use Rattle.flow_net.specs.Scopes.{HasScopes};
-ghost use Rattle.ipet_program.specs.Programs.{HasRows, IsRowOf, NamesHolding, chain_length};
+ghost use Rattle.age_model.specs.Classes.{HasRows, IsRowOf, NamesHolding, chain_length};
 ghost use Rattle.lru_concrete.specs.Chains.{chain};
 ghost use Rattle.net_model.specs.Accesses.{kind_of};
 

@@ -2,7 +2,8 @@
 
 ghost use Rattle.std.specs.Prelude.{◌≡◌, ℕ, ◌*◌, ◌^◌, ◌<◌, ◌≤◌, ◌*ℤ◌, All, length, pos, slice_index_or, unsigned_abs};
 ghost use Rattle.std.specs.Bool.{OnFalse, OnTrue};
-ghost use Rattle.ipet_program.specs.Counts.{AreCounts, IsFeasible, IsMet, NamesColumns, Rise, listed, row_sum, value_from, value_of};
+ghost use Rattle.ipet_program.specs.Counts.{AreCounts, IsFeasible, IsMet, NamesColumns, Rise, listed, row_sum};
+ghost use Rattle.ipet_program.specs.Counts.{value_from, value_of};
 ghost use Rattle.ipet_program.specs.Programs.{IsCheckable, IsSmall, IsSmallRow};
 ghost use Rattle.ipet_program.specs.declared.certificate.Count.{Count};
 
@@ -12,8 +13,10 @@ use crate::program::{Program, Row, Term};
 /// How many counts stand before those of a column.
 fn place_of(counts: &[Count], column: u32) -> usize
     requires { Rise counts.now }
-    ensures before { (k : ℕ) (d : Count) → k < result → k < length counts.now → (slice_index_or counts.now k d).column < column }
-    ensures behind { (k : ℕ) (d : Count) → result ≤ k → k < length counts.now → column ≤ (slice_index_or counts.now k d).column }
+    ensures before { (k : ℕ) (d : Count) → k < result → k < length counts.now →
+        (slice_index_or counts.now k d).column < column }
+    ensures behind { (k : ℕ) (d : Count) → result ≤ k → k < length counts.now →
+        column ≤ (slice_index_or counts.now k d).column }
 {
     counts.partition_point(|count| count.column < column)
 }

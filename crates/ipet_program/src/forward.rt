@@ -5,7 +5,8 @@ ghost use Rattle.std.specs.Bool.{OnTrue};
 ghost use Rattle.flow_net.specs.Nested.{IsBack, IsNested};
 ghost use Rattle.flow_net.specs.Numbers.{IsNumberOf, IsNumberOrZero};
 ghost use Rattle.flow_net.specs.Scopes.{HasScopes, Holds};
-ghost use Rattle.ipet_program.specs.Forward.{EachItem, EntersAt, IsForwardArc, IsForwardLoop, IsForwardPlace, IsLeft, IsReached};
+ghost use Rattle.ipet_program.specs.Forward.{EachItem, EntersAt, IsForwardArc, IsForwardLoop, IsForwardPlace};
+ghost use Rattle.ipet_program.specs.Forward.{IsLeft, IsReached};
 ghost use Rattle.flow_net.specs.declared.net.LoopInst.{LoopInst};
 
 use flow_net::{Context, LoopInst, Net, NetArc, Place};

@@ -6,7 +6,8 @@ ghost use Rattle.net_model.specs.Units.{is_transfer};
 ghost use Rattle.cache_config.specs.Instructions.{costs_of, stages_of};
 ghost use Rattle.cache_config.specs.Limits.{most_cycles};
 ghost use Rattle.code_units.specs.Ways.{IsStanding};
-ghost use Rattle.ipet_program.specs.Costs.{full_cost, full_limit, instr_cost, instr_full, price_limit, touch_cost, touch_full, unit_cost};
+ghost use Rattle.ipet_program.specs.Costs.{full_cost, full_limit, instr_cost, instr_full, price_limit, touch_cost};
+ghost use Rattle.ipet_program.specs.Costs.{touch_full, unit_cost};
 
 use cache_config::Profile;
 use mips_decode::{AccessKind, Instr};

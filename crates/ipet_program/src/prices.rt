@@ -19,7 +19,8 @@ use std::alloc::{AllocError, Global};
 /// The cycles of the unit at an address where one stands, with the first stage of each access.
 fn price_at(image: &Image, profile: &Profile, address: u32) -> u64
     requires { IsUnitAt image.now address }
-    ensures value { (number : ℕ) → result ≡ content_cost (costs_of profile.now) number (content_at image.now address) address }
+    ensures value { (number : ℕ) →
+        result ≡ content_cost (costs_of profile.now) number (content_at image.now address) address }
     ensures priced { IsPrice result }
 {
     match content_at(image, address) {
@@ -51,7 +52,8 @@ pub fn prices_of(
 /// The most cycles of the unit at an address where one stands.
 fn full_at(image: &Image, profile: &Profile, address: u32) -> u64
     requires { IsUnitAt image.now address }
-    ensures value { (number : ℕ) → result ≡ content_full (costs_of profile.now) number (content_at image.now address) address }
+    ensures value { (number : ℕ) →
+        result ≡ content_full (costs_of profile.now) number (content_at image.now address) address }
     ensures priced { IsFullPrice result }
 {
     match content_at(image, address) {

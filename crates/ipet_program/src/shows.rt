@@ -1,6 +1,7 @@
 //! What the columns' sums and the right side of a leaf show.
 
-ghost use Rattle.std.specs.Prelude.{◌≡◌, ◌+◌, ◌≤◌, ◌*ℤ◌, ◌≤ℤ◌, length, pos, slice_index_or, EachIndex, FitsSigned, IfNone, IfSome, false};
+ghost use Rattle.std.specs.Prelude.{◌≡◌, ◌+◌, ◌≤◌, ◌*ℤ◌, ◌≤ℤ◌, length, pos, slice_index_or, EachIndex, FitsSigned};
+ghost use Rattle.std.specs.Prelude.{IfNone, IfSome, false};
 ghost use Rattle.std.specs.Bool.{OnFalse, OnTrue};
 ghost use Rattle.std.specs.Int.{w128};
 ghost use Rattle.ipet_program.specs.Shown.{AreCovered, IsBelow, NoneNegative, SayRight, SayWrong, ShowNone, ValuesFit};

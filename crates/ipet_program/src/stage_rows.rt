@@ -135,8 +135,8 @@ fn add_stage(
     add_firsts(alloc, entering, stage.firsts.as_slice(), column, rows)
 }
 
-/// The rows of these stages, whose columns follow those of the arcs. They take time in proportion to their terms, and to
-/// the net.
+/// The rows of these stages, whose columns follow those of the arcs. They take time in proportion to their terms, and
+/// to the net.
 pub fn stage_rows(alloc: Global, net: &Net, stages: &[Stage]) -> Result<Vec<Row>, AllocError>
     requires nested { IsNested net.now }
     requires few { length net.now.arcs ≤ 2 ^ 25 }

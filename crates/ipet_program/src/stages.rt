@@ -4,28 +4,16 @@ ghost use Rattle.std.specs.Prelude.{◌≡◌, ◌+◌, ◌*◌, ◌≤◌, ◌^
 ghost use Rattle.cache_config.specs.Instructions.{costs_of};
 ghost use Rattle.flow_net.specs.Numbers.{IsNumberOf, IsNumberOrZero};
 ghost use Rattle.flow_net.specs.Scopes.{HasScopes, Holds, scopes_round};
-ghost use Rattle.ipet_program.specs.Programs.{HasRows, IsRowOf, NamesHolding};
+ghost use Rattle.age_model.specs.Classes.{HasRows, IsRowOf, NamesHolding};
 ghost use Rattle.ipet_program.specs.StageTables.{IsStageOf};
 ghost use Rattle.ipet_program.specs.Stages.{firsts_of, from_scope, further_stages, stages_from, stops_at};
-ghost use Rattle.net_model.specs.Accesses.{kind_of};
 
 use crate::program::Stage;
+use age_model::kind_of;
 use cache_config::Profile;
-use flow_net::{Access, Class, ClassTable, Letter, Level2, Net, Role};
-use mips_decode::AccessKind;
+use flow_net::{Access, Class, ClassTable, Letter, Level2, Net};
 use std::alloc::{AllocError, Global};
 use wcet_io::List;
-
-fn kind_of(role: Role) -> AccessKind
-    ensures { result ≡ kind_of role }
-{
-    match role {
-        Role::Fetch => AccessKind::Fetch,
-        Role::Slot => AccessKind::Slot,
-        Role::Load => AccessKind::Load,
-        Role::Store => AccessKind::Store,
-    }
-}
 
 /// Whether an access never goes on from a cache: it never arrives there, or always finds its block.
 fn stops_at(entry: Level2) -> bool
@@ -66,8 +54,8 @@ fn firsts_of(alloc: Global, net: &Net, place: u32, class: Class) -> Result<List<
     }
 }
 
-/// Adds the stages of an access, by its row of the class table. Their columns follow those of the arcs and of the stages
-/// before them.
+/// Adds the stages of an access, by its row of the class table. Their columns follow those of the arcs and of the
+/// stages before them.
 fn add_stages(
     alloc: Global,
     net: &Net,

@@ -19,7 +19,8 @@ pub record IsForwarding (table sources : List (List ℕ)) (done : ℕ) (forward 
   pub sound : (from to : ℕ) → IsStep forward from to → IsStep table from to × (IsStep sources to from → ⊥)
   pub whole : (from to : ℕ) → from < done → IsStep table from to → (IsStep sources to from → ⊥) → IsStep forward from to
 
--- The steps from one position more. The back arcs from it are read from those that are listed by their headers, turned round.
+-- The steps from one position more. The back arcs from it are read from those that are listed by their headers,
+-- turned round.
 pub forwarding_more : (table sources turned : List (List ℕ)) (done : ℕ) (forward : List (List ℕ)) (backs steps list : List ℕ) →
     IsReverse sources turned → IsForwarding table sources done forward → slice_get turned done ≡ Some backs →
     slice_get table done ≡ Some steps → AreForward backs steps list →

@@ -1,4 +1,5 @@
--- Ranks that rise along all arcs but back arcs: the header has the least of its body, and no cycle is without a back arc.
+-- Ranks that rise along all arcs but back arcs: the header has the least of its body, and no cycle is without a back
+-- arc.
 use Rattle.std.proofs.Common.{◌≡◌, ℕ, ◌<◌, ◌≤◌, List, [], ◌∷◌, ap, arith}
 use Rattle.elf_mips.specs.declared.image.Image.{Image}
 use Rattle.net_model.specs.Functions.{IsReached}

@@ -29,7 +29,7 @@ falling_met table entry ranks from header are step less =
     high_avoids table ranks (number_of ranks from) entry header from less
     (are.high from (from_within table from header step))
 
--- Where no way from the entry to one of some positions misses the header, none of them is met from the entry without it.
+-- If no way from the entry to one of some positions misses the header, none of them is met from the entry without it.
 pub none_met : (table reverse : List (List ℕ)) (positions : List ℕ) (entry header : ℕ) → IsReverse table reverse →
     (IsMet reverse positions header entry → ⊥) → (x : ℕ) → Contains positions x → IsMet table (entry ∷ []) header x → ⊥
 none_met table reverse positions entry header is unpassed x among met =

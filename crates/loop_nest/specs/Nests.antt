@@ -14,7 +14,8 @@ pub record IsLoop (image : Image) (entry : ℕ) (l : Loop) : Type 0 where
   pub whole : (address : ℕ) → IsInBody image entry l.header address → Contains l.body address
   pub bounded : IsLoopBound image entry l.header l.bound
 
--- The loops of a function, by rising header: each unit lies on no cycle without back arcs, and ranks rise along all other arcs.
+-- The loops of a function, by rising header: each unit lies on no cycle without back arcs, and ranks rise along all
+-- other arcs.
 pub record IsNest (image : Image) (entry : ℕ) (loops : List Loop) : Type 0 where
   pub rising : AllPairs (λ (l m : Loop). l.header < m.header) loops
   pub each : All (IsLoop image entry) loops

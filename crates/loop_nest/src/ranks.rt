@@ -1,6 +1,7 @@
 //! Ranks for the positions of a table of steps, by a search in depth.
 
-ghost use Rattle.std.specs.Prelude.{◌≡◌, ℕ, ◌+◌, ◌<◌, ◌∷◌, ◌++◌, [], All, List, Some, length, replicate, slice_get, IfNone, IfOk, IfSome, OnOk};
+ghost use Rattle.std.specs.Prelude.{◌≡◌, ℕ, ◌+◌, ◌<◌, ◌∷◌, ◌++◌, [], All, List, Some, length, replicate, slice_get};
+ghost use Rattle.std.specs.Prelude.{IfNone, IfOk, IfSome, OnOk};
 ghost use Rattle.step_table.specs.Numbers.{number_of};
 ghost use Rattle.loop_nest.specs.Ranks.{AreLooked, ArePassed, AreRanks, IsWalk, KeepsNumbers};
 ghost use Rattle.step_table.specs.Table.{AreMet, IsStep, IsWithin};

@@ -6,11 +6,12 @@ use Rattle.std.proofs.lemmas.List.{get_or_default}
 use Rattle.std.proofs.lemmas.List.Elements.{Contains-push_cases}
 use Rattle.unit_graph.specs.Flow.{ComesBack, Follows, Leads, LeadsFrom, SomeReturns}
 use Rattle.unit_graph.specs.Rows.{HasRow, Rise}
-use Rattle.unit_graph.specs.Search.{Sees}
+use Rattle.unit_graph.specs.Search.{Gains, Sees}
 use Rattle.unit_graph.specs.declared.flow.Reach.{Reach}
 use Rattle.unit_graph.specs.declared.flow.Reach.TheVariants.{Function, Program}
 use Rattle.unit_graph.specs.declared.rows.Row.{Row}
 use Rattle.code_units.proofs.Lists.{in_none}
+use Rattle.unit_graph.proofs.Gaining.{Gains-none, Gains-same}
 use Rattle.unit_graph.proofs.Seen.{Sees-none, Sees-same, Sees-then}
 
 pub some_none : (returning : List ℕ) → SomeReturns returning [] → ⊥
@@ -44,6 +45,15 @@ pub behind_one : (returning : List ℕ) (row : Row) (seen waiting later_seen lat
 behind_one returning row seen waiting later_seen later_waiting some sees =
     Sees-same (λ x. row.address + 8 ≡ x) (ComesBack returning row) seen waiting later_seen later_waiting
     (λ x h. (some, h)) (λ x h. h.1) sees
+
+pub behind_none : (returning : List ℕ) (row : Row) (keys : List ℕ) → (SomeReturns returning row.calls → ⊥) →
+    Gains (ComesBack returning row) keys keys
+behind_none returning row keys none = Gains-none (ComesBack returning row) keys (λ x h. absurd (none h.0))
+
+pub behind_added : (returning : List ℕ) (row : Row) (keys later : List ℕ) → SomeReturns returning row.calls →
+    Gains (λ x. row.address + 8 ≡ x) keys later → Gains (ComesBack returning row) keys later
+behind_added returning row keys later some gains =
+    Gains-same (λ x. row.address + 8 ≡ x) (ComesBack returning row) keys later (λ x h. (some, h)) (λ x h. h.1) gains
 
 pub some_called : (returning calls : List ℕ) → SomeReturns returning calls → 0 < length calls
 some_called returning calls some = let (k, inside, e) = some.called in omega arith

@@ -8,6 +8,7 @@ pub mod Exploring
 pub mod FarSight
 pub mod Flowing
 pub mod Foremost
+pub mod Gaining
 pub mod Growing
 pub mod Inferring
 pub mod Noting

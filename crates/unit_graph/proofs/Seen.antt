@@ -12,17 +12,17 @@ use Rattle.code_units.proofs.Lists.{alone, in_none}
 use Rattle.unit_graph.specs.Search.{Sees}
 
 -- What is in a set.
-there : (s : BTreeSet ℕ) (x : ℕ) → contains nat_cmp s x ≡ true → Contains s.keys x
+pub there : (s : BTreeSet ℕ) (x : ℕ) → contains nat_cmp s x ≡ true → Contains s.keys x
 there s x h = (btree_set_contains_iff nat_cmp_total exact_unsigned s x).0 h
 
-held : (s : BTreeSet ℕ) (x : ℕ) → Contains s.keys x → contains nat_cmp s x ≡ true
+pub held : (s : BTreeSet ℕ) (x : ℕ) → Contains s.keys x → contains nat_cmp s x ≡ true
 held s x h = (btree_set_contains_iff nat_cmp_total exact_unsigned s x).1 h
 
-either : (b old now : Bool) → now ≡ cond b true old → now ≡ true → (b ≡ true) ⊎ (old ≡ true)
+pub either : (b old now : Bool) → now ≡ cond b true old → now ≡ true → (b ≡ true) ⊎ (old ≡ true)
 either true old now e h = inl refl
 either false old now e h = inr (sym e ∙ h)
 
-right : (b old now : Bool) → now ≡ cond b true old → old ≡ true → now ≡ true
+pub right : (b old now : Bool) → now ≡ cond b true old → old ≡ true → now ≡ true
 right true old now e h = e
 right false old now e h = e ∙ h
 

@@ -1,4 +1,4 @@
--- Sets of what was seen.
+-- Sets that were filled from nothing.
 use Rattle.std.proofs.Common.{◌≡◌, ℕ, ◌<◌, Bool, true, false, List, [], sym, subst, inl, inr, if◌then◌else◌, Result, Ok, Err}
 use Rattle.std.specs.Prelude.{AllPairs, Contains, IfOk}
 use Rattle.std.specs.List.Sorted.{IsStrictlySortedBy}
@@ -8,21 +8,21 @@ use Rattle.std.proofs.lemmas.List.Elements.{All-contains_itself, All-weaker}
 use Rattle.code_units.specs.Sets.{IsSetOf}
 use Rattle.code_units.proofs.Lists.{in_none}
 use Rattle.unit_graph.specs.Graphs.{AreJust}
-use Rattle.unit_graph.specs.Search.{Sees}
+use Rattle.unit_graph.specs.Search.{Gains}
 
--- What was seen, where nothing was seen before.
-pub IsSetOf-seen : (given xs none nobody keys waiting items : List ℕ) → none ≡ [] → IsStrictlySortedBy nat_cmp none →
-    Sees (Contains xs) none nobody keys waiting → ((x : ℕ) → Contains xs x → Contains given x) →
+-- What an empty set gained.
+pub IsSetOf-gained : (given xs none keys items : List ℕ) → none ≡ [] → IsStrictlySortedBy nat_cmp none →
+    Gains (Contains xs) none keys → ((x : ℕ) → Contains xs x → Contains given x) →
     ((x : ℕ) → Contains given x → Contains xs x) → items ≡ keys → IsSetOf given items
-IsSetOf-seen given xs none nobody keys waiting items empty sorted sees into back e =
+IsSetOf-gained given xs none keys items empty sorted gains into back e =
     subst (IsSetOf given) (sym e) (record {
-      rising = λ i j d less inside. below_from_sorted keys i j d (sees.rising sorted) less inside;
+      rising = λ i j d less inside. below_from_sorted keys i j d (gains.rising sorted) less inside;
       sound = All-weaker (Contains keys) (Contains given) sound keys (All-contains_itself keys);
-      whole = All-weaker (Contains given) (Contains keys) (λ x h. sees.there x (back x h)) given (All-contains_itself given);
+      whole = All-weaker (Contains given) (Contains keys) (λ x h. gains.there x (back x h)) given (All-contains_itself given);
     })
   where
     sound : (x : ℕ) → Contains keys x → Contains given x
-    sound x h = elim (sees.only x h) [
+    sound x h = elim (gains.only x h) [
       | inl p ↦ absurd (in_none x (subst (λ (ys : List ℕ). Contains ys x) empty p))
       | inr q ↦ into x q
     ]
@@ -38,16 +38,16 @@ IfOk-set xs ys (Ok list) e set = subst (IsSetOf xs) (sym e) set
 IfOk-set xs ys (Err error) e set = tt
 
 -- The same where the numbers are said otherwise.
-pub AreJust-seen : (these : ℕ → Type 0) (none nobody keys waiting items : List ℕ) → none ≡ [] → IsStrictlySortedBy nat_cmp none →
-    Sees these none nobody keys waiting → items ≡ keys → AreJust these items
-AreJust-seen these none nobody keys waiting items empty sorted sees e =
+pub AreJust-gained : (these : ℕ → Type 0) (none keys items : List ℕ) → none ≡ [] → IsStrictlySortedBy nat_cmp none →
+    Gains these none keys → items ≡ keys → AreJust these items
+AreJust-gained these none keys items empty sorted gains e =
     subst (AreJust these) (sym e) (record {
-      rising = λ i j d less inside. below_from_sorted keys i j d (sees.rising sorted) less inside;
-      sound = λ x h. elim (sees.only x h) [
+      rising = λ i j d less inside. below_from_sorted keys i j d (gains.rising sorted) less inside;
+      sound = λ x h. elim (gains.only x h) [
         | inl p ↦ absurd (in_none x (subst (λ (ys : List ℕ). Contains ys x) empty p))
         | inr q ↦ q
       ];
-      whole = sees.there;
+      whole = gains.there;
     })
 
 -- The numbers of a rising list.
@@ -63,8 +63,9 @@ AreJust-same these others items into back are = record {
   whole = λ x h. are.whole x (back x h);
 }
 
-pub IfOk-just : {V E : Type 0} (items : V → List ℕ) (these : ℕ → Type 0) (none nobody keys waiting : List ℕ) (result : Result V E) → none ≡ [] →
-    IsStrictlySortedBy nat_cmp none → Sees these none nobody keys waiting →
+pub IfOk-just : {V E : Type 0} (items : V → List ℕ) (these : ℕ → Type 0) (none keys : List ℕ) (result : Result V E) →
+    none ≡ [] → IsStrictlySortedBy nat_cmp none → Gains these none keys →
     IfOk result (λ (v : V). items v ≡ keys) → IfOk result (λ (v : V). AreJust these (items v))
-IfOk-just items these none nobody keys waiting (Ok v) empty sorted sees e = AreJust-seen these none nobody keys waiting (items v) empty sorted sees e
-IfOk-just items these none nobody keys waiting (Err error) empty sorted sees e = tt
+IfOk-just items these none keys (Ok v) empty sorted gains e =
+    AreJust-gained these none keys (items v) empty sorted gains e
+IfOk-just items these none keys (Err error) empty sorted gains e = tt

@@ -25,6 +25,13 @@ pub record Sees (these : ℕ → Type 0) (seen waiting later_seen later_waiting 
   pub counted : length later_seen + length waiting ≡ length seen + length later_waiting
   pub more : length seen ≤ length later_seen
 
+-- A set gains these addresses, and has no other new one.
+pub record Gains (these : ℕ → Type 0) (keys later : List ℕ) : Type 0 where
+  pub kept : IsWithin keys later
+  pub there : (x : ℕ) → these x → Contains later x
+  pub only : (x : ℕ) → Contains later x → Contains keys x ⊎ these x
+  pub rising : IsStrictlySortedBy nat_cmp keys → IsStrictlySortedBy nat_cmp later
+
 -- All to which the address leads are seen.
 abbrev pub IsDone : (leads : ℕ → ℕ → Type 0) (seen : List ℕ) → ℕ → Type 0
 IsDone leads seen x = (y : ℕ) → leads x y → Contains seen y

@@ -3,10 +3,10 @@
 ghost use Rattle.std.specs.Prelude.{◌≡◌, ◌↔◌, ◌+◌, ◌<◌, ◌^◌, [], ℕ, All, Contains, IfOk, IsTrue, OnOk, length};
 ghost use Rattle.elf_mips.specs.declared.image.Image.{Image};
 ghost use Rattle.unit_graph.specs.Rows.{IsRow, Rise, ShareImage};
-ghost use Rattle.unit_graph.specs.Search.{AreLed, Sees};
+ghost use Rattle.unit_graph.specs.Search.{AreLed, Gains, Sees};
 
 use crate::rows::Row;
-use crate::search::{has, see, see_all};
+use crate::search::{add, add_all, has, see, see_all};
 use crate::span::row_at;
 use std::alloc::{AllocError, Global};
 use std::collections::BTreeSet;
@@ -53,7 +53,7 @@ fn see_behind(
 }
 
 /// Sees the onward units of a unit.
-pub fn see_onward(
+fn see_onward(
     row: &Row,
     returning: &BTreeSet<u32>,
     seen: &mut BTreeSet<u32>,
@@ -65,6 +65,36 @@ pub fn see_onward(
 {
     see_all(row.onward.as_slice(), seen, waiting)?;
     see_behind(row, returning, seen, waiting)?;
+    Ok(())
+}
+
+/// Adds the address behind the slot of a unit to a set, where some function that it calls can return.
+fn add_behind(
+    row: &Row,
+    returning: &BTreeSet<u32>,
+    found: &mut BTreeSet<u32>,
+) -> Result<(), AllocError>
+    requires { 0 < length row.now.calls → row.now.address + 8 < 2 ^ 32 }
+    ensures { OnOk result (Gains (ComesBack returning.now.keys row.now) found.old.keys found.new.keys) }
+{
+    if !some_returns(row.calls.as_slice(), returning) {
+        return Ok(());
+    }
+    add(row.address + 8, found)?;
+    Ok(())
+}
+
+/// Adds the onward units of a unit to a set.
+pub fn add_onward(
+    row: &Row,
+    returning: &BTreeSet<u32>,
+    found: &mut BTreeSet<u32>,
+) -> Result<(), AllocError>
+    requires { 0 < length row.now.calls → row.now.address + 8 < 2 ^ 32 }
+    ensures { OnOk result (Gains (Follows returning.now.keys row.now) found.old.keys found.new.keys) }
+{
+    add_all(row.onward.as_slice(), found)?;
+    add_behind(row, returning, found)?;
     Ok(())
 }
 

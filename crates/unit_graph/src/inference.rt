@@ -5,7 +5,8 @@ ghost use Rattle.std.specs.List.Sorted.{IsNonDecreasingBy};
 ghost use Rattle.elf_mips.specs.declared.image.Image.{Image};
 ghost use Rattle.unit_graph.specs.Rows.{AreRows, HaveImage, IsRow, OfTheirImage, ShareImage};
 ghost use Rattle.unit_graph.specs.Search.{Sees};
-ghost use Rattle.unit_graph.specs.Inference.{Adds, AreReturning, AreRules, Infers, IsCallRule, IsEnd, IsMetBy, IsOnwardRule, IsRuleOf, IsTried, returns_at};
+ghost use Rattle.unit_graph.specs.Inference.{Adds, AreReturning, AreRules, Infers, IsCallRule, IsEnd, IsMetBy};
+ghost use Rattle.unit_graph.specs.Inference.{IsOnwardRule, IsRuleOf, IsTried, returns_at};
 
 use crate::rows::Row;
 use crate::search::{has, see};

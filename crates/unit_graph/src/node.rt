@@ -8,7 +8,7 @@ ghost use Rattle.unit_graph.specs.Inference.{AreReturning};
 ghost use Rattle.unit_graph.specs.Rows.{AreRows, HasUnit, HaveImage, OfTheirImage};
 ghost use Rattle.code_units.specs.Ways.{IsPlaced};
 
-use crate::flow::see_onward;
+use crate::flow::add_onward;
 use crate::rows::Row;
 use crate::search::items_of;
 use crate::span::row_at;
@@ -46,10 +46,9 @@ fn onward_of(alloc: Global, row: &Row, returning: &BTreeSet<u32>) -> Result<List
     requires { 0 < length row.now.calls → row.now.address + 8 < 2 ^ 32 }
     ensures { IfOk result (AreJust (Follows returning.now.keys row.now)) }
 {
-    let mut seen = BTreeSet::new(alloc);
-    let mut waiting = Vec::new(alloc);
-    see_onward(row, returning, &mut seen, &mut waiting)?;
-    let items = items_of(alloc, &seen)?;
+    let mut onward = BTreeSet::new(alloc);
+    add_onward(row, returning, &mut onward)?;
+    let items = items_of(alloc, &onward)?;
     Ok(List::from_vec(items))
 }
 

@@ -6,13 +6,13 @@ ghost use Rattle.net_model.specs.Targets.{unit_at};
 ghost use Rattle.unit_graph.specs.Firsts.{IsFirstFaulty};
 ghost use Rattle.unit_graph.specs.Graphs.{AreJust};
 ghost use Rattle.unit_graph.specs.Rows.{AreRows, HasRow, IsRow, OfSharedImage, Rise};
-ghost use Rattle.unit_graph.specs.Search.{Sees};
+ghost use Rattle.unit_graph.specs.Search.{Gains};
 
 use crate::first::{Offence, first_fault};
 use crate::flow::{Reach, led_from};
 use crate::inference::returning_of;
 use crate::rows::Row;
-use crate::search::{items_of, see, see_all};
+use crate::search::{add, add_all, items_of};
 use crate::span::{row_at, rows_of};
 use code_units::targets_of;
 use elf_mips::Image;
@@ -35,37 +35,29 @@ pub struct Program {
 
 ghost use Rattle.unit_graph.specs.Program.{CalledFrom, HasImage, IsAnyFunction, IsProgram, OfImage, RowCalls};
 
-/// Sees what the unit at an address calls.
-fn see_calls(
-    rows: &[Row],
-    address: u32,
-    seen: &mut BTreeSet<u32>,
-    waiting: &mut Vec<u32>,
-) -> Result<(), AllocError>
+/// Adds what the unit at an address calls.
+fn add_calls(rows: &[Row], address: u32, calls: &mut BTreeSet<u32>) -> Result<(), AllocError>
     requires { Rise rows.now }
-    ensures { OnOk result (Sees (RowCalls rows.now address)
-        seen.old.keys waiting.old.items seen.new.keys waiting.new.items) }
+    ensures { OnOk result (Gains (RowCalls rows.now address) calls.old.keys calls.new.keys) }
 {
     let Some(row) = row_at(rows, address) else {
         return Ok(());
     };
-    see_all(row.calls.as_slice(), seen, waiting)?;
+    add_all(row.calls.as_slice(), calls)?;
     Ok(())
 }
 
-/// Sees what the units at these addresses call.
-pub fn see_all_calls(
+/// Adds what the units at these addresses call.
+pub fn add_all_calls(
     rows: &[Row],
     code: &[u32],
-    seen: &mut BTreeSet<u32>,
-    waiting: &mut Vec<u32>,
+    calls: &mut BTreeSet<u32>,
 ) -> Result<(), AllocError>
     requires { Rise rows.now }
-    ensures { OnOk result (Sees (CalledFrom rows.now code.now)
-        seen.old.keys waiting.old.items seen.new.keys waiting.new.items) }
+    ensures { OnOk result (Gains (CalledFrom rows.now code.now) calls.old.keys calls.new.keys) }
 {
     for address in code {
-        see_calls(rows, *address, seen, waiting)?;
+        add_calls(rows, *address, calls)?;
     }
     Ok(())
 }
@@ -80,11 +72,10 @@ fn functions_of(
     requires { Rise rows.now }
     ensures { IfOk result (λ functions. AreJust (IsAnyFunction rows.now code.now entry) functions.items) }
 {
-    let mut seen = BTreeSet::new(alloc);
-    let mut waiting = Vec::new(alloc);
-    see(entry, &mut seen, &mut waiting)?;
-    see_all_calls(rows, code, &mut seen, &mut waiting)?;
-    items_of(alloc, &seen)
+    let mut functions = BTreeSet::new(alloc);
+    add(entry, &mut functions)?;
+    add_all_calls(rows, code, &mut functions)?;
+    items_of(alloc, &functions)
 }
 
 /// What a program's code reaches from its entry.

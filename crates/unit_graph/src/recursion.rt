@@ -10,7 +10,7 @@ ghost use Rattle.unit_graph.specs.Recursion.{IsCallTable, IsFirstRecursive};
 ghost use Rattle.unit_graph.specs.Rows.{IsRow, Rise, ShareImage};
 
 use crate::flow::{Reach, led_from};
-use crate::program::{Program, see_all_calls};
+use crate::program::{Program, add_all_calls};
 use crate::rows::Row;
 use crate::search::items_of;
 use std::alloc::{AllocError, Global};
@@ -31,10 +31,9 @@ fn calls_in(
 {
     let led = led_from(alloc, rows, Reach::Function, returning, function)?;
     let code = items_of(alloc, &led)?;
-    let mut seen = BTreeSet::new(alloc);
-    let mut waiting = Vec::new(alloc);
-    see_all_calls(rows, &code, &mut seen, &mut waiting)?;
-    items_of(alloc, &seen)
+    let mut calls = BTreeSet::new(alloc);
+    add_all_calls(rows, &code, &mut calls)?;
+    items_of(alloc, &calls)
 }
 
 /// For each function the positions of those that it calls.

@@ -8,7 +8,7 @@ ghost use Rattle.code_units.specs.Sets.{IsSetOf};
 ghost use Rattle.code_units.specs.Targets.{AreTargets};
 ghost use Rattle.code_units.specs.Ways.{IsPlaced, listed};
 
-use crate::search::{items_of, see_targets};
+use crate::search::{add_targets, items_of};
 use code_units::{
     Ways, is_indirect, is_register_call, own_callee, own_ways, stops, targets_at, unit_at,
 };
@@ -57,10 +57,9 @@ fn recorded(
     requires { AreTargets image.now targets.now }
     ensures { IfOk result (IsSetOf (targets_at image.now address)) }
 {
-    let mut seen = BTreeSet::new(alloc);
-    let mut waiting = Vec::new(alloc);
-    see_targets(targets_at(targets, address), &mut seen, &mut waiting)?;
-    let items = items_of(alloc, &seen)?;
+    let mut found = BTreeSet::new(alloc);
+    add_targets(targets_at(targets, address), &mut found)?;
+    let items = items_of(alloc, &found)?;
     Ok(List::from_vec(items))
 }
 

@@ -1,7 +1,7 @@
-//! The sets of a search: the addresses that were seen, and those that still wait to be looked at.
+//! Sets of addresses, and those of a search: the addresses that were seen, and those that still wait to be looked at.
 
 ghost use Rattle.std.specs.Prelude.{◌≡◌, ◌↔◌, Contains, IfOk, IsTrue, OnOk, map};
-ghost use Rattle.unit_graph.specs.Search.{Sees};
+ghost use Rattle.unit_graph.specs.Search.{Gains, Sees};
 
 use elf_mips::Mark;
 use std::alloc::{AllocError, Global};
@@ -46,17 +46,30 @@ pub fn see_all(
     Ok(())
 }
 
-/// Sees the targets of these records, and lets those wait that weren't seen before.
-pub fn see_targets(
-    marks: &[Mark],
-    seen: &mut BTreeSet<u32>,
-    waiting: &mut Vec<u32>,
-) -> Result<(), AllocError>
-    ensures { OnOk result (Sees (Contains (map (λ mark. mark.x) marks.now))
-        seen.old.keys waiting.old.items seen.new.keys waiting.new.items) }
+/// Adds an address to a set.
+pub fn add(address: u32, set: &mut BTreeSet<u32>) -> Result<(), AllocError>
+    ensures { OnOk result (Gains (λ x. address ≡ x) set.old.keys set.new.keys) }
+{
+    set.insert(address)?;
+    Ok(())
+}
+
+/// Adds these addresses to a set.
+pub fn add_all(addresses: &[u32], set: &mut BTreeSet<u32>) -> Result<(), AllocError>
+    ensures { OnOk result (Gains (Contains addresses.now) set.old.keys set.new.keys) }
+{
+    for address in addresses {
+        add(*address, set)?;
+    }
+    Ok(())
+}
+
+/// Adds the targets of these records to a set.
+pub fn add_targets(marks: &[Mark], set: &mut BTreeSet<u32>) -> Result<(), AllocError>
+    ensures { OnOk result (Gains (Contains (map (λ mark. mark.x) marks.now)) set.old.keys set.new.keys) }
 {
     for mark in marks {
-        see(mark.x, seen, waiting)?;
+        add(mark.x, set)?;
     }
     Ok(())
 }

@@ -18,7 +18,7 @@ use Rattle.net_model.specs.Targets.{unit_at}
 use Rattle.net_model.specs.declared.unit.CodeUnit.{CodeUnit}
 use Rattle.net_model.specs.declared.unit.Content.{Content}
 use Rattle.net_model.specs.declared.unit.Content.TheVariants.{Unit as Stands, Fault}
-use Rattle.ipet_program.specs.Programs.{HasRows, IsRowOf, NamesHolding}
+use Rattle.age_model.specs.Classes.{HasRows, IsRowOf, NamesHolding}
 use Rattle.ipet_program.proofs.PlainProgram.{chain-none}
 
 empty-row : (net : Net) (access : Access) (row : List Level2) → length row ≡ 0 → IsRowOf net [] access row

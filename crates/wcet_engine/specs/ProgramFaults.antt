@@ -43,8 +43,8 @@ pub record IsTooMany (image : Image) (entry : ℕ) : Type 0 where
   pub sizes : AreSizes image entry contexts places
   pub many : AreTooMany contexts places
 
--- The crude bound of a net is above its limit: what each place costs with all stages of its accesses, times the bounds of
--- the loops that hold it.
+-- The crude bound of a net is above its limit: what each place costs with all stages of its accesses, times the bounds
+-- of the loops that hold it.
 abbrev pub IsLargeNet : Image → Profile → Net → Type 0
 IsLargeNet image profile net = crude_limit < crude_of net (full_price profile image net)
 

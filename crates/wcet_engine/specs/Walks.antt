@@ -23,7 +23,8 @@ pub record IsWalkOf (profile : Profile) (entry : ℕ) (net : Net) (m : Machine) 
   pub walk : IsWalk net (own_range net) moments
   -- Each access visits what the machine's caches make it visit.
   pub moves : Moves net m.caches.held moments
-  -- The cycles are those of its instructions' classes and its stores, and the latencies of all that its accesses visited.
+  -- The cycles are those of its instructions' classes and its stores, and the latencies of all that its accesses
+  -- visited.
   pub cycles : (last_machine m machines).cycles
       ≡ own_costs profile.cycles profile.store (units_along m machines)
       + latencies_along net profile.levels profile.memory moments

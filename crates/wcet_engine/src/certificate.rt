@@ -3,7 +3,8 @@
 ghost use Rattle.std.specs.Prelude.{◌≡◌, ◌≤◌, [], IfErr, IfOk};
 ghost use Rattle.flow_net.specs.Nested.{IsNested};
 ghost use Rattle.ipet_program.specs.Certificates.{IsValid};
-ghost use Rattle.ipet_program.specs.Programs.{HasRows, IsCheckable, crude_limit};
+ghost use Rattle.age_model.specs.Classes.{HasRows};
+ghost use Rattle.ipet_program.specs.Programs.{IsCheckable, crude_limit};
 ghost use Rattle.nest_solver.specs.Answers.{ShowsGreatest};
 ghost use Rattle.nest_solver.specs.Nets.{IsProgramOfNet};
 ghost use Rattle.nest_solver.specs.Tables.{IsFew};

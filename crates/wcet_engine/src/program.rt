@@ -23,8 +23,10 @@ use unit_graph::{Graphs, function_graphs};
 /// `Fault` says that the entry function never returns, or else that there are too many contexts or places.
 fn net_of(alloc: Global, entry: u32, graphs: &Graphs, nests: &Nests) -> Result<Net, Refused>
     requires { (image : Image) × IsProgram image entry graphs.now nests.now }
-    ensures net { IfOk result (λ net. (image : Image) → IsProgram image entry graphs.now nests.now → IsNetOf image entry net) }
-    ensures bad { IfErr result (λ e. (image : Image) → IsProgram image entry graphs.now nests.now → TellsNoNet image entry e) }
+    ensures net { IfOk result (λ net. (image : Image) →
+        IsProgram image entry graphs.now nests.now → IsNetOf image entry net) }
+    ensures bad { IfErr result (λ e. (image : Image) →
+        IsProgram image entry graphs.now nests.now → TellsNoNet image entry e) }
 {
     match expand(alloc, graphs, nests) {
         Ok(net) => Ok(net),

@@ -2,7 +2,8 @@
 
 ghost use Rattle.std.specs.Prelude.{◌≡◌, ◌++◌, flat_map, IfOk, OnOk};
 ghost use Rattle.std.specs.String.{string_bytes};
-ghost use Rattle.wcet_engine.specs.Texts.{certificate_text, count_text, leaf_head, leaf_text, lines_of, node_text, refusal_text, spot_text, text_of, weight_text};
+ghost use Rattle.wcet_engine.specs.Texts.{certificate_text, count_text, leaf_head, leaf_text, lines_of, node_text};
+ghost use Rattle.wcet_engine.specs.Texts.{refusal_text, spot_text, text_of, weight_text};
 
 use crate::analysis::Analysis;
 use crate::answer::Answer;

@@ -6,9 +6,9 @@ use std::test::Fail;
 #[test]
 fn bounds_a_counted_loop(rt: HostRuntime) -> Result<(), Fail> {
     let alloc = rt.alloc();
-    // A plain unit costs 11 cycles, one with a slot 22: 11, then 33 for each turn, then 22. The arcs are those from 0 to
-    // the start, from there to the header, to the branch, back, on to the return, and to 0. Row 1 has the bound for its
-    // multiplier; those of the other rows may be others.
+    // A plain unit costs 11 cycles, one with a slot 22: 11, then 33 for each turn, then 22. The arcs are those from 0
+    // to the start, from there to the header, to the branch, back, on to the return, and to 0. Row 1 has the bound for
+    // its multiplier; those of the other rows may be others.
     let rows: [(u32, &str); 3] = [
         (
             5,

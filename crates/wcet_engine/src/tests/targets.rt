@@ -48,8 +48,8 @@ fn bounds_recorded_targets(rt: HostRuntime) -> Result<(), Fail> {
 fn bounds_loops_of_recorded_jumps(rt: HostRuntime) -> Result<(), Fail> {
     let alloc = rt.alloc();
     // Three turns of a branch and one of two inner loops, each of two turns over a jump to one of three recorded
-    // targets. A turn of an inner loop takes 6 instructions, a turn of the outer one those and 6 more, and the return 2:
-    // 56 instructions at 11.
+    // targets. A turn of an inner loop takes 6 instructions, a turn of the outer one those and 6 more, and the return
+    // 2: 56 instructions at 11.
     let words = [
         0x1080_000D,
         0,

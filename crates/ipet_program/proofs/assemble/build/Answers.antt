@@ -11,6 +11,7 @@ use Rattle.ipet_program.specs.Tables.{IsFullPrice, IsPrice}
 use Rattle.ipet_program.specs.declared.program.Row.{Row}
 use Rattle.ipet_program.specs.declared.program.Stage.{Stage}
 use Rattle.ipet_program.proofs.Crudely.{is-low, low-by, priced-each}
+use Rattle.ipet_program.proofs.Staged.{flow-staged}
 use Rattle.ipet_program.proofs.StagesCheckable.{befores, staged-checkable}
 use Rattle.ipet_program.proofs.WalkCounts.{counts-walks}
 use Rattle.ipet_program.proofs.assemble.build.Goals as goal
@@ -65,6 +66,11 @@ pub returns-clause-counted : goal.returns-clause-counted
 returns-clause-counted c =
     counts-walks c.args.net.now c.requires.nested c.args.profile.now c.args.image.now c.args.classes.now c.in_ok-program.program
     c.requires.rows (returns-clause-program c)
+
+pub returns-clause-staged : goal.returns-clause-staged
+returns-clause-staged c =
+    flow-staged c.args.net.now c.args.classes.now c.args.profile.now c.args.image.now c.in_ok-program.program c.requires.nested
+    (returns-clause-program c)
 
 pub returns-clause-checkable : goal.returns-clause-checkable
 returns-clause-checkable c =

@@ -5,7 +5,7 @@ use Rattle.std.proofs.lemmas.List.Elements.{All-more, All-same}
 use Rattle.flow_net.specs.declared.letter.Class.TheVariants.{Hit}
 use Rattle.flow_net.specs.declared.letter.Letter.TheVariants.{Always}
 use Rattle.flow_net.specs.declared.letter.Level2.{Level2}
-use Rattle.ipet_program.specs.Programs.{NamesHolding}
+use Rattle.age_model.specs.Classes.{NamesHolding}
 use Rattle.ipet_program.proofs.class_rows.are_firsts.Goals as goal
 
 pub loop-entry-preserved : goal.loop-entry-preserved

@@ -1,7 +1,7 @@
 -- Where the accesses that are left have their rows, all have.
 use Rattle.std.proofs.Common.{drop}
 use Rattle.std.specs.List.{AllZip}
-use Rattle.ipet_program.specs.Programs.{HasRows, IsRowOf}
+use Rattle.age_model.specs.Classes.{HasRows, IsRowOf}
 use Rattle.ipet_program.proofs.class_rows.has_rows.Given as goal
 
 abbrev pub invariant-loop-index : goal.invariant-loop-index

@@ -4,7 +4,7 @@ use Rattle.std.proofs.lemmas.Slice.Zip.{AllZip-long}
 use Rattle.cache_config.specs.Instructions.{costs_of}
 use Rattle.flow_net.specs.declared.net.Access.{Access}
 use Rattle.flow_net.specs.declared.net.Role.TheVariants.{Fetch}
-use Rattle.ipet_program.specs.Programs.{IsRowOf}
+use Rattle.age_model.specs.Classes.{IsRowOf}
 use Rattle.ipet_program.specs.Stages.{further_stages}
 use Rattle.ipet_program.proofs.StageLists.{stages_by-next, zip-read}
 use Rattle.ipet_program.proofs.stages.further_stages.Goals as goal

@@ -1,11 +1,11 @@
 use Rattle.std.proofs.Common.{◌∙◌}
 use Rattle.unit_graph.specs.Flow.{Follows}
-use Rattle.unit_graph.proofs.Sets.{AreJust-seen}
+use Rattle.unit_graph.proofs.Sets.{AreJust-gained}
 use Rattle.unit_graph.proofs.node.onward_of.Goals as goal
 
 pub returns : goal.returns
 returns c =
-    AreJust-seen (Follows c.args.returning.now.keys c.args.row.now) c.new-seen.result.keys c.new-waiting.result.items
-    c.see_onward.new.seen.keys c.see_onward.new.waiting.items c.from_vec.result
-    c.new-seen.ensures.empty c.new-seen.ensures.ordered c.in_ok-see_onward.ensures
+    AreJust-gained (Follows c.args.returning.now.keys c.args.row.now) c.new-onward.result.keys
+    c.add_onward.new.found.keys c.from_vec.result
+    c.new-onward.ensures.empty c.new-onward.ensures.ordered c.in_ok-add_onward.ensures
     (c.from_vec.ensures ∙ c.in_ok-items.ensures)

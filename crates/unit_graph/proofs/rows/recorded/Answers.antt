@@ -3,7 +3,7 @@ use Rattle.elf_mips.specs.declared.mark.Mark.{Mark}
 use Rattle.net_model.specs.Targets.{targets_at}
 use Rattle.code_units.proofs.Naming.{found_named, named_found}
 use Rattle.code_units.proofs.Ranging.{AreAt}
-use Rattle.unit_graph.proofs.Sets.{IsSetOf-seen}
+use Rattle.unit_graph.proofs.Sets.{IsSetOf-gained}
 use Rattle.unit_graph.proofs.rows.recorded.Goals as goal
 
 pub returns : goal.returns
@@ -16,9 +16,8 @@ returns c =
       sound = c.targets_at.ensures.sound;
       whole = c.targets_at.ensures.whole;
     } in
-    IsSetOf-seen (targets_at image c.args.address) (map (λ (mark : Mark). mark.x) found) c.new-seen.result.keys
-    c.new-waiting.result.items c.see_targets.new.seen.keys c.see_targets.new.waiting.items c.from_vec.result
-    c.new-seen.ensures.empty c.new-seen.ensures.ordered c.in_ok-see_targets.ensures
+    IsSetOf-gained (targets_at image c.args.address) (map (λ (mark : Mark). mark.x) found) c.new-found.result.keys
+    c.add_targets.new.set.keys c.from_vec.result c.new-found.ensures.empty c.new-found.ensures.ordered c.in_ok-add_targets.ensures
     (λ target h. found_named image targets found c.args.address target c.requires at h)
     (λ target h. named_found image targets found c.args.address target c.requires at h)
     (c.from_vec.ensures ∙ c.in_ok-items.ensures)

@@ -1,6 +1,7 @@
 -- The program of a net under a profile without caches is its plain part, which the solver asks for.
 use Rattle.std.proofs.Common.{◌≡◌, ◌*◌, ◌^◌, ◌≤◌, [], List, length, sym, ap, subst, arith}
-use Rattle.ipet_program.specs.Programs.{HasRows, place_price}
+use Rattle.age_model.specs.Classes.{HasRows}
+use Rattle.ipet_program.specs.Programs.{place_price}
 use Rattle.ipet_program.proofs.PlainProgram.{uncached-program}
 use Rattle.lru_concrete.specs.declared.level.Level.{Level}
 use Rattle.wcet_engine.proofs.Certified.{fits-image}

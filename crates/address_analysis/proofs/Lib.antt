@@ -1,0 +1,2 @@
+-- Lemmas on ranges.
+pub mod OwnRanges

@@ -1,0 +1,2 @@
+-- Which addresses accesses may go to.
+pub mod Ranges

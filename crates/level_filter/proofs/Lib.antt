@@ -1,0 +1,3 @@
+-- Lemmas on class tables.
+pub mod Arriving
+pub mod UnknownRows

@@ -1,0 +1,2 @@
+-- Rows of class tables.
+pub mod Unknown

@@ -1,0 +1,7 @@
+-- Lemmas on lower ages.
+pub mod Changing
+pub mod Doubted
+pub mod DoubtedOrder
+pub mod Doubting
+pub mod Joining
+pub mod Touching

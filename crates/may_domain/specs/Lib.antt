@@ -1,0 +1,6 @@
+-- Lower ages of the blocks of one cache set.
+pub mod Changes
+pub mod Laws
+pub mod Order
+pub mod States
+pub mod Touches
